@@ -1,0 +1,7 @@
+pub mod Machine
+pub mod Reader
+pub mod Residual
+pub mod Spelled
+pub mod Unique
+pub mod Ends
+pub mod RunLaws

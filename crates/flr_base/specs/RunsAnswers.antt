@@ -1,0 +1,21 @@
+-- Why a text isn't read.
+use Rattle.std.specs.Prelude.{◌<◌, ℕ, List, length}
+use Rattle.flr_base.specs.Faults.{IsFirstFault}
+use Rattle.flr_base.specs.declared.runs.fault.RunsError.{RunsError}
+use Rattle.flr_base.specs.declared.runs.fault.RunsError.TheVariants.{Bad, TooLong, NoMemory}
+use Rattle.flr_base.specs.Runs.{IsSpelling, Spells}
+
+abbrev pub IsBad : List ℕ → RunsError → Type 0
+IsBad text (Bad at) = IsFirstFault IsSpelling text at
+IsBad text TooLong = ⊥
+IsBad text NoMemory = Unit {0}
+
+abbrev pub IsFault : List ℕ → ℕ → RunsError → Type 0
+IsFault text most (Bad at) = IsFirstFault IsSpelling text at
+IsFault text most TooLong = (bytes : List ℕ) × Spells text bytes × (most < length bytes)
+IsFault text most NoMemory = Unit {0}
+
+abbrev pub IsNoMemory : RunsError → Type 0
+IsNoMemory (Bad at) = ⊥
+IsNoMemory TooLong = ⊥
+IsNoMemory NoMemory = Unit {0}

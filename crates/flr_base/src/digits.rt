@@ -1,0 +1,41 @@
+ghost use Rattle.std.specs.Prelude.{◌≡◌, ◌++◌, ◌<◌, OnOk, false};
+ghost use Rattle.std.specs.Fmt.{decimal, digit_glyph};
+ghost use Rattle.flr_base.specs.Runs.{hex};
+
+use crate::memory::NoMemory;
+
+/// Appends the number in decimal, without a sign or a leading zero. It takes no memory but what the
+/// text grows by. Without memory the text may have grown by some of the digits.
+#[tactic(auto, using(std::proofs::lemmas::Fmt::decimal_digit))]
+pub fn put_decimal(out: &mut Vec<u8>, n: u64) -> Result<(), NoMemory>
+    ensures appended { OnOk result (out.new.items ≡ out.old.items ++ decimal n) }
+{
+    if n < 10 {
+        out.push(b'0' + n as u8)?;
+        return Ok(());
+    }
+    put_decimal(out, n / 10)?;
+    out.push(b'0' + (n % 10) as u8)?;
+    Ok(())
+}
+
+fn digit_glyph(digit: u8) -> u8
+    requires { digit < 16 }
+    ensures { result ≡ digit_glyph false digit }
+{
+    if digit < 10 {
+        b'0' + digit
+    } else {
+        b'a' + (digit - 10)
+    }
+}
+
+/// Appends the byte as two lower-case hexadecimal digits. Without memory the text may have grown by
+/// one of them.
+pub fn put_hex(out: &mut Vec<u8>, byte: u8) -> Result<(), NoMemory>
+    ensures appended { OnOk result (out.new.items ≡ out.old.items ++ hex byte) }
+{
+    out.push(digit_glyph(byte / 16))?;
+    out.push(digit_glyph(byte % 16))?;
+    Ok(())
+}

@@ -1,0 +1,11 @@
+//! Bytes as text, by runs.
+
+mod fault;
+mod printing;
+mod reading;
+mod run;
+mod scan;
+
+pub use fault::RunsError;
+pub use printing::print_runs;
+pub use reading::read_runs;

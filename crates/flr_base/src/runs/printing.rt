@@ -1,0 +1,72 @@
+ghost use Rattle.std.specs.Prelude.{◌≡◌, ◌<◌, ◌^◌, ◌++◌, length, IfOk, OnOk};
+ghost use Rattle.flr_base.specs.Runs.{AreRuns, Spells, run_text, runs_text, bytes_of};
+
+use crate::list::Octets;
+use crate::memory::NoMemory;
+use crate::digits::{put_decimal, put_hex};
+use crate::runs::run::Run;
+use std::alloc::Global;
+
+/// The runs of the bytes.
+fn group(alloc: Global, bytes: &[u8]) -> Result<Vec<Run>, NoMemory>
+    requires { length bytes.now < 2 ^ 32 }
+    ensures { IfOk result (λ runs. AreRuns runs.items × (bytes.now ≡ bytes_of runs.items)) }
+{
+    let mut runs: Vec<Run> = Vec::new(alloc);
+    let mut last: Option<Run> = None;
+    for byte in bytes {
+        let byte = *byte;
+        last = match last {
+            Some(run) if run.byte == byte => Some(Run {
+                byte,
+                count: run.count + 1,
+            }),
+            Some(run) => {
+                runs.push(run)?;
+                Some(Run { byte, count: 1 })
+            }
+            None => Some(Run { byte, count: 1 }),
+        };
+    }
+    if let Some(run) = last {
+        runs.push(run)?;
+    }
+    Ok(runs)
+}
+
+fn put_run(out: &mut Vec<u8>, run: Run) -> Result<(), NoMemory>
+    ensures { OnOk result (out.new.items ≡ out.old.items ++ run_text run) }
+{
+    put_hex(out, run.byte)?;
+    out.push(b'*')?;
+    put_decimal(out, u64::from(run.count))?;
+    Ok(())
+}
+
+/// Appends the spelling of the runs.
+fn put_runs(out: &mut Vec<u8>, runs: &[Run]) -> Result<(), NoMemory>
+    ensures { OnOk result (out.new.items ≡ out.old.items ++ runs_text runs.now) }
+{
+    match runs {
+        [] => out.push(b'-')?,
+        [first, others @ ..] => {
+            put_run(out, *first)?;
+            for run in others {
+                out.push(b'+')?;
+                put_run(out, *run)?;
+            }
+        }
+    }
+    Ok(())
+}
+
+/// The one spelling of the bytes, as `read_runs` reads it.
+pub fn print_runs(alloc: Global, bytes: &Octets) -> Result<Octets, NoMemory>
+    requires { length bytes.now < 2 ^ 32 }
+    ensures spelling { IfOk result (λ text. Spells text bytes.now) }
+{
+    let runs = group(alloc, bytes.as_slice())?;
+    let mut text = Vec::new(alloc);
+    put_runs(&mut text, &runs)?;
+    Ok(Octets::from_vec(text))
+}
