@@ -5,3 +5,4 @@ pub mod Spelled
 pub mod Unique
 pub mod Ends
 pub mod RunLaws
+pub mod RunLists

@@ -1,5 +1,5 @@
--- Bytes as text, by runs.
-use Rattle.std.specs.Prelude.{◌≡◌, ◌≢◌, ℕ, ◌+◌, ◌*◌, ◌/◌, ◌%◌, ◌<◌, ◌^◌, List, [], ◌∷◌, ◌++◌, map, Bool, false, length, replicate, Option, Some, None}
+-- Bytes as text, by runs: the longest stretches of one byte, each written as the byte and how often it stands.
+use Rattle.std.specs.Prelude.{◌≡◌, ◌≢◌, ◌==◌, if◌then◌else◌, ℕ, suc, ◌+◌, ◌*◌, ◌/◌, ◌%◌, ◌<◌, ◌^◌, List, [], ◌∷◌, ◌++◌, map, Bool, false, length, replicate, Option, Some, None}
 use Rattle.std.specs.List.{flat_map}
 use Rattle.std.specs.Fmt.{decimal, digit_glyph}
 use Rattle.flr_base.specs.declared.runs.run.Run.{Run}
@@ -35,3 +35,17 @@ Spells text bytes = (rs : List Run) × AreRuns rs × (text ≡ runs_text rs) × 
 
 abbrev pub IsSpelling : List ℕ → Type 0
 IsSpelling text = (rs : List Run) × AreRuns rs × (text ≡ runs_text rs)
+
+-- the runs of a byte and of what stands behind it
+abbrev pub onto_run : ℕ → List Run → List Run
+onto_run b [] = record { byte = b; count = 1 } ∷ []
+onto_run b (r ∷ rs) = if b == r.byte then record { byte = b; count = suc r.count } ∷ rs else record { byte = b; count = 1 } ∷ r ∷ rs
+
+-- the runs of a list of bytes
+abbrev pub runs_of : List ℕ → List Run
+runs_of [] = []
+runs_of (b ∷ bytes) = onto_run b (runs_of bytes)
+
+-- the one spelling of a list of bytes
+abbrev pub text_of_bytes : List ℕ → List ℕ
+text_of_bytes bytes = runs_text (runs_of bytes)

@@ -21,7 +21,7 @@ pub use outside::{Failed, Sink, Source};
 pub use reply::{
     Diff, EOF, Entry, FailedCall, Left, ObjectId, Progress, Range, Reply, Stripe, Take, TakeFrom,
 };
-pub use runs::{RunsError, print_runs, read_runs};
+pub use runs::{Run, RunsError, print_runs, read_runs, runs_of};
 pub use streams::{ReadError, read_all, write_all};
 
 #[cfg(test)]

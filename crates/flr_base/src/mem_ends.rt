@@ -80,7 +80,10 @@ impl Source for MemSource {
 fn is_listed(failing: &Ids, call: u64) -> bool
     ensures { IsTrue result ↔ Contains failing.now call }
 {
-    failing.as_slice().iter().any(|listed| u64::from(*listed) == call)
+    failing
+        .as_slice()
+        .iter()
+        .any(|listed| u64::from(*listed) == call)
 }
 
 /// A sink in memory that fails the listed calls, counted from 1.

@@ -7,5 +7,6 @@ mod run;
 mod scan;
 
 pub use fault::RunsError;
-pub use printing::print_runs;
+pub use printing::{print_runs, runs_of};
 pub use reading::read_runs;
+pub use run::Run;

@@ -1,13 +1,13 @@
 ghost use Rattle.std.specs.Prelude.{◌≡◌, ◌<◌, ◌^◌, ◌++◌, length, IfOk, OnOk};
-ghost use Rattle.flr_base.specs.Runs.{AreRuns, Spells, run_text, runs_text, bytes_of};
+ghost use Rattle.flr_base.specs.Runs.{AreRuns, Spells, run_text, runs_text, bytes_of, runs_of, text_of_bytes};
 
+use crate::digits::{put_decimal, put_hex};
 use crate::list::Octets;
 use crate::memory::NoMemory;
-use crate::digits::{put_decimal, put_hex};
 use crate::runs::run::Run;
 use std::alloc::Global;
 
-/// The runs of the bytes.
+/// The runs of the bytes, neighbours of different bytes.
 fn group(alloc: Global, bytes: &[u8]) -> Result<Vec<Run>, NoMemory>
     requires { length bytes.now < 2 ^ 32 }
     ensures { IfOk result (λ runs. AreRuns runs.items × (bytes.now ≡ bytes_of runs.items)) }
@@ -60,12 +60,26 @@ fn put_runs(out: &mut Vec<u8>, runs: &[Run]) -> Result<(), NoMemory>
     Ok(())
 }
 
+/// The runs of the bytes: the longest stretches of one byte, in their order.
+#[tactic(auto, using(crate::proofs::RunLists::group_is))]
+pub fn runs_of(alloc: Global, bytes: &[u8]) -> Result<Vec<Run>, NoMemory>
+    requires { length bytes.now < 2 ^ 32 }
+    ensures runs { IfOk result (λ runs. runs.items ≡ runs_of bytes.now) }
+    ensures apart { IfOk result (λ runs. AreRuns runs.items) }
+    ensures bytes { IfOk result (λ runs. bytes.now ≡ bytes_of runs.items) }
+{
+    let runs = group(alloc, bytes)?;
+    Ok(runs)
+}
+
 /// The one spelling of the bytes, as `read_runs` reads it.
+#[tactic(auto, using(crate::proofs::RunLists::runs_spell))]
 pub fn print_runs(alloc: Global, bytes: &Octets) -> Result<Octets, NoMemory>
     requires { length bytes.now < 2 ^ 32 }
     ensures spelling { IfOk result (λ text. Spells text bytes.now) }
+    ensures exact { IfOk result (λ text. text ≡ text_of_bytes bytes.now) }
 {
-    let runs = group(alloc, bytes.as_slice())?;
+    let runs = runs_of(alloc, bytes.as_slice())?;
     let mut text = Vec::new(alloc);
     put_runs(&mut text, &runs)?;
     Ok(Octets::from_vec(text))
