@@ -6,3 +6,4 @@ pub mod Unique
 pub mod Ends
 pub mod RunLaws
 pub mod RunLists
+pub mod Bytes

@@ -6,3 +6,4 @@ pub mod MemEnds
 pub mod Runs
 pub mod Scan
 pub mod RunsAnswers
+pub mod Bytes
