@@ -1,0 +1,9 @@
+pub mod Servers
+pub mod Steps
+pub mod Clients
+pub mod States
+pub mod Stores
+pub mod Histories
+pub mod Honesty
+pub mod Takes
+pub mod Soundness

@@ -1,0 +1,114 @@
+-- The state of the world, its next step, and the state after a schedule.
+use Rattle.std.specs.Prelude.{◌≡◌, ℕ, ◌+◌, ◌-◌, List, [], ◌∷◌, ◌++◌, length, map, replicate, take, ◌==◌, ◌&&◌, if◌then◌else◌, Option, None, Some, is_some, slice_get, slice_set, zero, suc}
+use Rattle.std.specs.Option.{option_and_then}
+use Rattle.flr_base.specs.declared.reply.Entry.{Entry}
+use Rattle.script_text.specs.Scripts.{ScriptView, command_after, IsScript}
+use Rattle.flr_world.specs.declared.call.Phase.TheVariants as phase
+use Rattle.flr_world.specs.declared.client.Client.{Client}
+use Rattle.flr_world.specs.declared.client.Note.{Note}
+use Rattle.flr_world.specs.declared.client.Note.TheVariants.{Nothing, Adds, Closes}
+use Rattle.flr_world.specs.declared.world.StepAnswer.{StepAnswer}
+use Rattle.flr_world.specs.declared.world.StepAnswer.TheVariants as answer
+use Rattle.flr_world.specs.Servers.{Shared, TargetView}
+use Rattle.flr_world.specs.Clients.{ClientNext, Moves, Ends, client_next}
+
+-- the script, what the servers keep, each client, the calls whose answer is fixed, and who stepped so far
+pub record State : Type 0 where
+  pub script : ScriptView
+  pub shared : Shared
+  pub clients : List Client
+  pub entries : List Entry
+  pub schedule : List ℕ
+
+-- the place of the next step
+abbrev pub place_in : State → ℕ
+place_in s = length s.schedule + 1
+
+-- the entry, which ends at this place where it is of that client and hasn't ended
+abbrev pub closed : ℕ → ℕ → Entry → Entry
+closed c place e = if (e.client == c) && (e.last == 0) then record e { last = place } else e
+
+abbrev pub noted : ℕ → ℕ → List Entry → Note → List Entry
+noted c place entries Nothing = entries
+noted c place entries (Adds entry) = entries ++ entry ∷ []
+noted c place entries Closes = map (closed c place) entries
+
+pub data Next : Type 0 where
+  Stepped : (after : State) → Next
+  Finished : Next
+  Unknown : Next
+
+-- the client made a step, which left this
+abbrev pub stepped : State → ℕ → ℕ → Client → Shared → Note → State
+stepped s c place client after note = record {
+  script = s.script;
+  shared = after;
+  clients = slice_set s.clients (c - 1) client;
+  entries = noted c place s.entries note;
+  schedule = s.schedule ++ c ∷ [];
+}
+
+abbrev pub next_by : State → ℕ → ClientNext → Next
+next_by s c (Moves client after note) = Stepped (stepped s c (place_in s) client after note)
+next_by s c Ends = Finished
+
+-- a client by its number, from 1
+abbrev pub client_at : List Client → ℕ → Option Client
+client_at clients zero = None
+client_at clients (suc c) = slice_get clients c
+
+abbrev pub next_from : State → ℕ → Option Client → Next
+next_from s c None = Unknown
+next_from s c (Some client) = next_by s c (client_next c (place_in s) client s.shared (command_after s.script c client.done))
+
+-- the next step of a client
+abbrev pub next : State → ℕ → Next
+next s c = next_from s c (client_at s.clients c)
+
+-- what a step of the world answers and leaves: another client is never in the way, since there is none
+abbrev pub StepGives : State → ℕ → StepAnswer → State → Type 0
+StepGives old c answer.Stepped new = next old c ≡ Stepped new
+StepGives old c (answer.Blocked holder) new = ⊥
+StepGives old c answer.Finished new = (next old c ≡ Finished) × (new ≡ old)
+StepGives old c answer.Unknown new = (next old c ≡ Unknown) × (new ≡ old)
+StepGives old c answer.NoMemory new = new ≡ old
+
+abbrev pub new_client : Client
+new_client = record { done = 0; first = 0; phase = phase.Idle }
+
+-- the state before any step: a target with one empty object, and no files
+abbrev pub start : ScriptView → State
+start script = record {
+  script = script;
+  shared = record { files = []; targets = record { objects = [] ∷ []; log = [] } ∷ []; locks = [] };
+  clients = replicate (length script.clients) new_client;
+  entries = [];
+  schedule = [];
+}
+
+-- the state after a step, where it was made
+abbrev pub state_of : Next → Option State
+state_of (Stepped after) = Some after
+state_of other = None
+
+-- the state after a schedule, where each of its steps was made
+abbrev pub after : State → List ℕ → Option State
+after s [] = Some s
+after s (c ∷ cs) = option_and_then (λ mid. after mid cs) (state_of (next s c))
+
+-- the state after the first so many places of a schedule
+abbrev pub state_at : ScriptView → List ℕ → ℕ → Option State
+state_at script schedule place = after (start script) (take place schedule)
+
+-- the lowest client that has a command left, where the first of the list has the number c
+abbrev pub unfinished_from : ScriptView → ℕ → List Client → Option ℕ
+unfinished_from script c [] = None
+unfinished_from script c (client ∷ clients) = if is_some (command_after script c client.done) then Some c else unfinished_from script (c + 1) clients
+
+abbrev pub unfinished_of : State → Option ℕ
+unfinished_of s = unfinished_from s.script 1 s.clients
+
+-- a state that its schedule leads to, of a script within the limits
+pub record IsRun (s : State) : Type 0 where
+  pub limits : IsScript s.script
+  pub run : after (start s.script) s.schedule ≡ Some s

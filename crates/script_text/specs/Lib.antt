@@ -1,0 +1,4 @@
+pub mod Commands
+pub mod Scripts
+pub mod Replays
+pub mod Reading

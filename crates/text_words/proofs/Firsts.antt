@@ -1,0 +1,46 @@
+-- The first word of a line.
+use Rattle.std.proofs.Common.{◌≡◌, ℕ, zero, suc, ◌+◌, ◌<◌, ◌≤◌, Bool, true, false, cond, eqb, not, List, [], ◌∷◌, ◌++◌, length, get_or, take, drop, refl, sym, ap, ◌∙◌, arith}
+use Rattle.std.specs.List.{slice_split, onto_first, filter}
+use Rattle.std.proofs.lemmas.Bool.{cond_both, eqb-true, eq-eqb, ne_eqb}
+use Rattle.std.proofs.lemmas.List.{at_drop_more, at_drop_all}
+use Rattle.text_words.specs.Pieces.{words_of, parts_of, word_len}
+
+abbrev full : List ℕ → Bool
+full word = not (eqb (length word) 0)
+
+abbrev space : ℕ → Bool
+space byte = eqb byte 32
+
+abbrev Parted : List ℕ → Type 0
+Parted line = (more : List (List ℕ)) × (slice_split space line ≡ take (word_len line) line ∷ more) × (filter full (slice_split space (drop (word_len line) line)) ≡ filter full more)
+
+parted_cons : (c : ℕ) (cs : List ℕ) (b : Bool) → space c ≡ b → Parted cs → Parted (c ∷ cs)
+parted_cons c cs true e h = (slice_split space cs, rw e refl, rw (e, e) refl)
+parted_cons c cs false e h = (h.0, rw e (ap (onto_first c) h.1), rw e h.2)
+
+parted : (line : List ℕ) → Parted line
+parted [] = ([], refl, refl)
+parted (c ∷ cs) = parted_cons c cs (space c) refl (parted cs)
+
+first_cons : (c : ℕ) (cs : List ℕ) (b : Bool) → space c ≡ b → b ≡ false → words_of (c ∷ cs) ≡ take (word_len (c ∷ cs)) (c ∷ cs) ∷ words_of (drop (word_len (c ∷ cs)) (c ∷ cs))
+first_cons c cs true e f = absurd cc
+first_cons c cs false e f = let p = parted cs in rw e (ap (filter full) (ap (onto_first c) p.1) ∙ rw (ne_eqb (suc (length (take (word_len cs) cs))) 0 (λ z. omega arith)) (ap (λ xs. (c ∷ take (word_len cs) cs) ∷ xs) (sym p.2)))
+
+pub first_word : (line : List ℕ) (n : ℕ) → n ≡ word_len line → 0 < length line → ((rest : List ℕ) → line ≡ 32 ∷ rest → ⊥) → words_of line ≡ take n line ∷ words_of (drop n line)
+first_word [] n e lt h = absurd (omega arith)
+first_word (c ∷ cs) n e lt h = rw e (first_cons c cs (space c) refl (ne_eqb c 32 (λ z. h cs (ap (λ x. x ∷ cs) z))))
+
+pub ends_here : (line : List ℕ) (i : ℕ) → i < length line → get_or line i 0 ≡ 32 → i + word_len (drop i line) ≡ word_len line → i ≡ word_len line
+ends_here line i lt e h =
+    let step : word_len (drop i line) ≡ 0 = at_drop_more word_len line i 0 lt ∙ rw (eq-eqb (get_or line i 0) 32 e) refl in
+    omega arith
+
+pub goes_on : (line : List ℕ) (i : ℕ) → i < length line → (get_or line i 0 ≡ 32 → ⊥) → i + word_len (drop i line) ≡ word_len line → (i + 1) + word_len (drop (i + 1) line) ≡ word_len line
+goes_on line i lt e h =
+    let step : word_len (drop i line) ≡ suc (word_len (drop (i + 1) line)) = at_drop_more word_len line i 0 lt ∙ rw (ne_eqb (get_or line i 0) 32 e) refl in
+    omega arith
+
+pub all_word : (line : List ℕ) (i : ℕ) → length line ≤ i → i + word_len (drop i line) ≡ word_len line → i ≡ word_len line
+all_word line i le h = omega (arith, h, at_drop_all word_len line i le)
+
+pub ruleset cursor = (ends_here, goes_on, all_word)

@@ -1,0 +1,9 @@
+pub mod Bytes
+pub mod Cuts
+pub mod Items
+pub mod Lines
+pub mod Lists
+pub mod Names
+pub mod Numbers
+pub mod Pieces
+pub mod Sizes

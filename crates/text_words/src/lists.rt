@@ -1,0 +1,78 @@
+ghost use Rattle.std.specs.Prelude.{◌≡◌, ◌++◌, ◌∷◌, map, IfOk, OnOk};
+ghost use Rattle.std.specs.Option.{option_map};
+ghost use Rattle.std.specs.List.{flat_map};
+ghost use Rattle.text_words.specs.Lists.{items_of, list_of, list_text};
+
+use crate::pieces::parts;
+use flr_base::NoMemory;
+use std::alloc::Global;
+
+/// What may stand in a list that is written as one word.
+pub trait Item {
+    ghost use Rattle.std.specs.Prelude.{List, ℕ, Option, ◌≡◌, ◌++◌, OnOk};
+
+    // the word of an item
+    ghost text: { Self → List ℕ };
+
+    // the item that a word spells
+    ghost item_of: { List ℕ → Option Self };
+
+    /// Appends the word of the item. Without memory the text may have grown by a part of it.
+    fn put(&self, out: &mut Vec<u8>) -> Result<(), NoMemory>
+        ensures { OnOk result (out.new.items ≡ out.old.items ++ text self.now) };
+
+    /// The item that the word spells.
+    fn read(word: &[u8]) -> Option<Self>
+        ensures { result ≡ item_of word.now };
+}
+
+fn put_more<T: Item>(out: &mut Vec<u8>, items: &[T]) -> Result<(), NoMemory>
+    ensures { OnOk result (out.new.items ≡ out.old.items ++ flat_map (λ next. 44 ∷ T.text next) items.now) }
+{
+    for item in items {
+        out.push(b',')?;
+        item.put(out)?;
+    }
+    Ok(())
+}
+
+/// Appends the items as one word: joined by commas, and `-` for none. Without memory the text may have
+/// grown by a part of it.
+pub fn put_list<T: Item>(out: &mut Vec<u8>, items: &[T]) -> Result<(), NoMemory>
+    ensures appended { OnOk result (out.new.items ≡ out.old.items ++ list_text T.text items.now) }
+{
+    match items {
+        [] => {
+            out.push(b'-')?;
+            Ok(())
+        }
+        [first, others @ ..] => {
+            first.put(out)?;
+            put_more(out, others)
+        }
+    }
+}
+
+fn read_items<T: Item + Drop>(alloc: Global, words: &[&[u8]]) -> Result<Option<Vec<T>>, NoMemory>
+    ensures { IfOk result (λ found. option_map (λ items. items.items) found ≡ items_of T.item_of (map (λ word. word.now) words.now)) }
+{
+    let mut items = Vec::new(alloc);
+    for word in words {
+        match T::read(word) {
+            None => return Ok(None),
+            Some(item) => items.push(item)?,
+        }
+    }
+    Ok(Some(items))
+}
+
+/// The items that the word spells: joined by commas, and `-` for none.
+pub fn list<T: Item + Drop>(alloc: Global, word: &[u8]) -> Result<Option<Vec<T>>, NoMemory>
+    ensures value { IfOk result (λ found. option_map (λ items. items.items) found ≡ list_of T.item_of word.now) }
+{
+    if word == b"-".as_slice() {
+        return Ok(Some(Vec::new(alloc)));
+    }
+    let words = parts(alloc, word, b',')?;
+    read_items(alloc, &words)
+}
