@@ -154,14 +154,3 @@ pub record StepFits (command : Command) (at : Phase) (files : List File) (target
   pub cookies : (place : ℕ) → (file_at files place).cookies < 2 ^ 32 - 1
   pub generation : (place : ℕ) → (file_at files place).layout.generation < 2 ^ 32 - 1
   pub calls : length target.log < 2 ^ 32 - 1
-
--- phases that take no memory
-abbrev pub TakesNone : Phase → Type 0
-TakesNone (phase.Commit o) = Unit {0}
-TakesNone (phase.Confirm o bytes takes) = Unit {0}
-TakesNone phase.Unlock = Unit {0}
-TakesNone other = ⊥
-
-abbrev pub IsShort : Progress Phase → Type 0
-IsShort (progress.NoMemory back) = Unit {0}
-IsShort other = ⊥

@@ -1,0 +1,6 @@
+-- The components so far are copied.
+use Rattle.std.proofs.Common.{◌≡◌, take}
+use Rattle.composite_layout.proofs.layout.copy_components.Given as goal
+
+abbrev pub invariant-loop-component : goal.invariant-loop-component
+invariant-loop-component l = l.copies.items ≡ take l.component-index l.components

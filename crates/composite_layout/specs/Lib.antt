@@ -1,0 +1,6 @@
+pub mod FlagChanges
+pub mod Layouts
+pub mod LookUps
+pub mod Specs
+pub mod Making
+pub mod Choices

@@ -1,0 +1,17 @@
+//! Composite layouts: mirrors made of striped components, each mirror over the whole file.
+#![tactic(auto)]
+
+mod component;
+mod flag_change;
+mod layout;
+mod make;
+mod spec;
+
+pub use component::{Component, Flags, State};
+pub use flag_change::FlagChange;
+pub use layout::Layout;
+pub use make::new_mirrors;
+pub use spec::{MirrorSpec, MirrorSpecs, Part, Parts, Spec, SpecError};
+
+#[cfg(test)]
+mod tests;

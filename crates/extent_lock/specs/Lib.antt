@@ -1,0 +1,4 @@
+pub mod Conflicts
+pub mod Writers
+pub mod Order
+pub mod Extents

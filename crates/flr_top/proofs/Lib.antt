@@ -1,0 +1,4 @@
+pub mod Lists
+pub mod Printable
+pub mod Played
+pub mod Told

@@ -1,0 +1,4 @@
+pub mod Reports
+pub mod Replays
+pub mod Statuses
+pub mod Outcomes

@@ -1,0 +1,6 @@
+pub mod Lists
+pub mod Lowest
+pub mod SoundLock
+pub mod Cookies
+pub mod SoundTable
+pub mod EventLaws

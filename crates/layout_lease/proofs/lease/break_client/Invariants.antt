@@ -1,0 +1,7 @@
+use Rattle.std.proofs.Common.{◌≡◌, ◌++◌, drop, map, take}
+use Rattle.layout_lease.specs.Leases.{broken_of_client}
+use Rattle.layout_lease.proofs.lease.break_client.Given as goal
+
+abbrev pub invariant-loop-lease : goal.invariant-loop-lease
+invariant-loop-lease l =
+    l.leases ≡ map (broken_of_client l.client l.step) (take l.lease-index l.initial.leases) ++ drop l.lease-index l.initial.leases

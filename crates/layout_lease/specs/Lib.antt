@@ -1,0 +1,4 @@
+pub mod Clients
+pub mod Shares
+pub mod Leases
+pub mod Events

@@ -1,0 +1,3 @@
+pub mod FailsLaws
+pub mod ObjectsLaws
+pub mod CallsLaws
