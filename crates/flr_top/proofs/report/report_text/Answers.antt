@@ -30,7 +30,7 @@ pub returns : goal.returns
 returns c =
     let s = c.args.world.now in
     let calls : flat_map (entry_text c.script.result.now) c.entries.result.now ≡ flat_map call_text (report_of s).calls
-        = ap (λ (v : ScriptView). flat_map (entry_text v) c.entries.result.now) c.script.ensures.same ∙ ap (λ (es : List Entry). flat_map (entry_text s.script) es) c.entries.ensures.same ∙ sym (texts_one_by_one call_text (call_of s.script) s.entries) in
+    = ap (λ (v : ScriptView). flat_map (entry_text v) c.entries.result.now) c.script.ensures.same ∙ ap (λ (es : List Entry). flat_map (entry_text s.script) es) c.entries.ensures.same ∙ sym (texts_one_by_one call_text (call_of s.script) s.entries) in
     let files = ap (λ (fs : List File). flat_map file_text fs) c.files.ensures.same in
     let runs = ap (λ (p : List ℕ). flat_map run_word (runs_of p)) c.schedule.ensures.same in
     let head = next_part _ _ _ (codes "flr-report 1" ++ 10 ∷ []) _ c.in_ok-put.ensures c.new-out.ensures.items refl in
