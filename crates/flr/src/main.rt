@@ -6,16 +6,22 @@ use flr_top::flr_main;
 use std::process::ExitCode;
 use std::{env, io};
 
-/// What the program ends with where its words can't be had.
+/// What the program ends with where memory runs out before its words are known.
 const NO_MEMORY: u8 = 6;
 
-fn words(rt: &HostRuntime) -> Option<Vec<String>> {
-    env::args(rt).ok()?.skip(1).collect(rt.alloc()).ok()
+/// The words behind the program's name. Words that aren't text are an error.
+fn words(rt: &HostRuntime) -> io::Result<Vec<String>> {
+    Ok(env::args(rt)?.skip(1).collect(rt.alloc())?)
 }
 
 fn main(rt: HostRuntime) -> ExitCode {
-    let Some(words) = words(&rt) else {
-        return ExitCode::from(NO_MEMORY);
+    let words = match words(&rt) {
+        Ok(words) => words,
+        Err(error) if error.kind() == io::ErrorKind::OutOfMemory => {
+            return ExitCode::from(NO_MEMORY);
+        }
+        // Words that aren't text are no words that are known.
+        Err(_) => Vec::new(rt.alloc()),
     };
     let mut input = FromRead::new(rt.reader());
     let mut out = ToWrite::new(io::writer(&rt));
