@@ -1,7 +1,7 @@
 -- Texts that are put one after another.
-use Rattle.std.proofs.Common.{◌≡◌, ℕ, zero, suc, ◌+◌, ◌<◌, ◌≤◌, List, [], ◌∷◌, ◌++◌, length, get_or, take, replicate, refl, sym, ap, ◌∙◌, arith}
-use Rattle.std.specs.Prelude.{Option, Some, None, slice_get}
-use Rattle.std.specs.List.{flat_map, filter_map}
+use Rattle.std.proofs.Common.{◌≡◌, ℕ, zero, suc, ◌+◌, ◌<◌, List, [], ◌∷◌, ◌++◌, length, get_or, take, replicate, refl, sym, ap, ◌∙◌, arith}
+use Rattle.std.specs.Prelude.{Some, slice_get}
+use Rattle.std.specs.List.{flat_map}
 use Rattle.std.specs.Prelude.{Result, Ok, Err, OnOk}
 use Rattle.std.proofs.lemmas.List.{append_assoc, append-nil, take_more}
 use Rattle.std.proofs.lemmas.Grind.{flat_map-append}
@@ -22,23 +22,12 @@ put_behind (Err e) start mid now a b h was = tt
 pub next_part : (o t p p' now : List ℕ) → now ≡ o ++ p → o ≡ t → p ≡ p' → now ≡ t ++ p'
 next_part o t p p' now h e f = h ∙ ap (λ l. l ++ p) e ∙ ap (λ l. t ++ l) f
 
-pub take_past : {A : Type 0} (xs : List A) (n : ℕ) → length xs ≤ n → take n xs ≡ xs
-take_past [] zero le = refl
-take_past [] (suc n) le = refl
-take_past (x ∷ xs) zero le = absurd (omega arith)
-take_past {A = A} (x ∷ xs) (suc n) le = ap (λ (ys : List A). x ∷ ys) (take_past xs n (omega arith))
-
 -- the text of one more element behind those before it
 pub put_more : {X : Type 0} (f : X → List ℕ) (xs : List X) (i : ℕ) (d x : X) (start before now : List ℕ) → i < length xs → x ≡ get_or xs i d → before ≡ start ++ flat_map f (take i xs) → now ≡ before ++ f x → now ≡ start ++ flat_map f (take (i + 1) xs)
 put_more f xs i d x start before now lt is was put =
     put ∙ ap (λ l. l ++ f x) was ∙ append_assoc start (flat_map f (take i xs)) (f x) ∙ ap (λ l. start ++ l) (ap (λ y. flat_map f (take i xs) ++ f y) is ∙ sym (flat_map-take_more f xs i d lt))
 
--- the first of a list that repeats one element
-pub take_replicate : {A : Type 0} (x : A) (n k : ℕ) → k ≤ n → take k (replicate n x) ≡ replicate k x
-take_replicate x n zero le = refl
-take_replicate x zero (suc k) le = absurd (omega arith)
-take_replicate {A = A} x (suc n) (suc k) le = ap (λ (xs : List A). x ∷ xs) (take_replicate x n k (omega arith))
-
+-- an element of a list that repeats one
 pub get_replicate : {A : Type 0} (x : A) (n k : ℕ) → k < n → slice_get (replicate n x) k ≡ Some x
 get_replicate x zero k lt = absurd (omega arith)
 get_replicate x (suc n) zero lt = refl

@@ -1,8 +1,7 @@
 -- What a schedule of one client comes to.
-use Rattle.std.proofs.Common.{◌≡◌, ℕ, zero, suc, ◌+◌, ◌-◌, ◌<◌, ◌≤◌, List, [], ◌∷◌, ◌++◌, length, take, replicate, refl, sym, ap, subst, ◌∙◌, arith, inl, inr}
-use Rattle.std.specs.Prelude.{Option, Some, None, slice_get}
-use Rattle.std.proofs.lemmas.List.{append-nil}
-use Rattle.flr_base.specs.declared.reply.Entry.{Entry}
+use Rattle.std.proofs.Common.{◌≡◌, ℕ, ◌+◌, ◌<◌, List, [], ◌∷◌, length, take, replicate, sym, ap, subst, ◌∙◌, arith, inl, inr}
+use Rattle.std.specs.Prelude.{Some, None, slice_get}
+use Rattle.std.proofs.lemmas.List.{append-nil, take-replicate}
 use Rattle.script_text.specs.declared.script.ClientRun.{ClientRun}
 use Rattle.script_text.specs.Scripts.{ScriptView}
 use Rattle.flr_world.specs.declared.client.Client.{Client}
@@ -13,7 +12,7 @@ use Rattle.flr_world.specs.Takes.{EachAnswered}
 use Rattle.flr_world.proofs.Theorem.{reached, linear_run, takes_run}
 use Rattle.flr_top.specs.Reports.{report_of, text_of_report}
 use Rattle.flr_top.specs.Replays.{places_of, IsDone, IsStopped, IsUnfinished, finished_line, unfinished_line}
-use Rattle.flr_top.proofs.Lists.{take_replicate, get_replicate}
+use Rattle.flr_top.proofs.Lists.{get_replicate}
 
 abbrev pub one_run : ℕ → List ClientRun
 one_run times = record { client = 1; times = times } ∷ []
@@ -53,7 +52,7 @@ stopped_by script times made s text same run less steps stops written = record {
   client = 1;
   state = s;
   within = ap (λ (p : List ℕ). slice_get p made) (places_one times) ∙ get_replicate 1 times made less;
-  run = ap (λ (p : List ℕ). after (start script) (take made p)) (places_one times) ∙ ap (λ (p : List ℕ). after (start script) p) (take_replicate 1 times made (omega arith) ∙ sym steps) ∙ ap (λ (v : ScriptView). after (start v) s.schedule) (sym same) ∙ run.run;
+  run = ap (λ (p : List ℕ). after (start script) (take made p)) (places_one times) ∙ ap (λ (p : List ℕ). after (start script) p) (take-replicate made times 1 (omega arith) ∙ sym steps) ∙ ap (λ (v : ScriptView). after (start v) s.schedule) (sym same) ∙ run.run;
   stops = stops;
   written = written;
 }

@@ -1,5 +1,5 @@
 -- Every entry of a run can be printed, and the calls' texts are their entries' texts.
-use Rattle.std.proofs.Common.{◌≡◌, ℕ, zero, suc, ◌+◌, ◌-◌, ◌<◌, ◌≤◌, ◌^◌, List, [], ◌∷◌, ◌++◌, length, get_or, take, drop, refl, sym, ap, subst, ◌∙◌, arith}
+use Rattle.std.proofs.Common.{◌≡◌, ℕ, zero, suc, ◌-◌, ◌<◌, ◌≤◌, ◌^◌, List, [], ◌∷◌, ◌++◌, length, get_or, refl, sym, ap, subst, ◌∙◌, arith}
 use Rattle.std.specs.Prelude.{Option, Some, None, slice_get, slice_index_or}
 use Rattle.std.specs.List.{AllByRecursion, flat_map, filter_map, cons_option}
 use Rattle.std.proofs.lemmas.List.{length-take, append-nil}
@@ -9,7 +9,7 @@ use Rattle.flr_base.specs.declared.reply.Reply.TheVariants.{Bytes}
 use Rattle.script_text.specs.declared.command.Command.{Command}
 use Rattle.script_text.specs.declared.command.Command.TheVariants.{SetStripe, Read, Write}
 use Rattle.script_text.specs.Commands.{IsOn, IsSpellable}
-use Rattle.script_text.specs.Scripts.{ScriptView, one_client, commands_of, IsScript}
+use Rattle.script_text.specs.Scripts.{ScriptView, commands_of, IsScript}
 use Rattle.flr_world.specs.Stores.{Plain, Allows, AllowsIf, IsLegal, command_of, effect_if}
 use Rattle.flr_top.specs.Reports.{IsPrintable, IsPrintableReply}
 

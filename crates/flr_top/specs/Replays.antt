@@ -1,10 +1,9 @@
 -- What a replay of a script and a schedule comes to.
-use Rattle.std.specs.Prelude.{◌≡◌, ℕ, ◌+◌, ◌<◌, ◌⊎◌, List, [], ◌∷◌, ◌++◌, length, replicate, Option, None, Some, codes, slice_get}
+use Rattle.std.specs.Prelude.{◌≡◌, ℕ, ◌+◌, ◌<◌, List, [], ◌∷◌, ◌++◌, replicate, Option, None, Some, codes, slice_get}
 use Rattle.std.specs.List.{flat_map}
 use Rattle.std.specs.Fmt.{decimal}
 use Rattle.script_text.specs.declared.script.ClientRun.{ClientRun}
 use Rattle.script_text.specs.Scripts.{ScriptView}
-use Rattle.script_text.specs.Replays.{IsReplay, IsNoReplay}
 use Rattle.flr_world.specs.States.{State, Finished, next, after, start, state_at, unfinished_of}
 use Rattle.flr_world.specs.Histories.{IsLinear}
 use Rattle.flr_world.specs.Takes.{EachAnswered}

@@ -1,4 +1,4 @@
-use Rattle.std.proofs.Common.{ℕ, ap, subst, ◌∙◌}
+use Rattle.std.proofs.Common.{ap, subst, ◌∙◌}
 use Rattle.flr_world.specs.declared.world.StepAnswer.{StepAnswer}
 use Rattle.flr_world.specs.States.{State, StepGives, next}
 use Rattle.flr_top.proofs.Played.{known}

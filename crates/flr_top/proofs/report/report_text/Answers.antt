@@ -1,6 +1,5 @@
-use Rattle.std.proofs.Common.{◌≡◌, ◌<◌, ◌≤◌, ◌++◌, ℕ, List, [], ◌∷◌, length, get_or, refl, ap, sym, subst, ◌∙◌, arith}
+use Rattle.std.proofs.Common.{◌≡◌, ◌<◌, ◌++◌, ℕ, List, [], ◌∷◌, length, get_or, refl, ap, sym, subst, ◌∙◌, arith}
 use Rattle.flr_base.specs.declared.reply.Entry.{Entry}
-use Rattle.flr_world.specs.Stores.{IsLegal}
 use Rattle.flr_world.proofs.Conditions.{short}
 use Rattle.flr_world.proofs.Theorem.{linear_run}
 use Rattle.std.specs.Prelude.{codes}
