@@ -3,6 +3,8 @@ pub mod Decimals
 pub mod Firsts
 pub mod LineLaws
 pub mod ListLaws
+pub mod ListTexts
+pub mod OneWords
 pub mod SizeLaws
 pub mod Spellings
 pub mod Splits

@@ -4,9 +4,8 @@ use Rattle.std.proofs.lemmas.Bool.{eqb-true}
 use Rattle.std.proofs.Math.Seq.{take-length}
 use Rattle.text_words.specs.Lines.{onto_line, lines_of, text_of, unended}
 use Rattle.text_words.specs.Pieces.{Lacks, AllLack}
-use Rattle.text_words.proofs.Splits.{Lacks-append}
 use Rattle.std.proofs.Common.{◌<◌, ◌+◌, length, take, drop, get_or}
-use Rattle.std.proofs.lemmas.List.{take_more, take-append-drop, at_drop_more}
+use Rattle.std.proofs.lemmas.List.{take-append-drop, at_drop_more}
 
 lines-first : (line rest : List ℕ) → Lacks 10 line → lines_of (line ++ 10 ∷ rest) ≡ Some line ∷ lines_of rest
 lines-first [] rest h = refl

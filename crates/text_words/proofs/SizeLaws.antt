@@ -1,15 +1,15 @@
 -- A word spells a size or an end that is written so, and no other.
-use Rattle.std.proofs.Common.{◌≡◌, ℕ, ◌+◌, ◌-◌, ◌*◌, ◌%◌, ◌^◌, ◌<◌, ◌≤◌, Bool, true, false, cond, ◌||◌, eqb, ltb, List, [], ◌∷◌, ◌++◌, length, get_or, take, Option, Some, None, refl, sym, ap, subst, ◌∙◌, arith, inl, inr}
+use Rattle.std.proofs.Common.{◌≡◌, ℕ, ◌+◌, ◌-◌, ◌*◌, ◌%◌, ◌^◌, ◌<◌, ◌≤◌, true, false, ◌||◌, eqb, ltb, List, [], ◌∷◌, ◌++◌, length, get_or, take, Option, Some, None, refl, sym, ap, subst, ◌∙◌, arith, inl, inr}
 use Rattle.std.specs.Prelude.{codes, option_and_then, ◌⊎◌, ◌↔◌}
 use Rattle.std.specs.Str.{bytes_eq}
 use Rattle.std.specs.Fmt.{decimal}
-use Rattle.std.proofs.lemmas.Bool.{cond_both, or_cases, or_left, or_right, or_from, ltb-true, lt-ltb, eqb-false, ne_eqb, eq-eqb, false_from_ne_true}
+use Rattle.std.proofs.lemmas.Bool.{cond_both, or_cases, ltb-true, lt-ltb, eqb-false, ne_eqb, false_from_ne_true}
 use Rattle.std.proofs.lemmas.Bool.Decides.{nat_tests}
-use Rattle.std.proofs.lemmas.List.{get_or_push, get_or_append_left, length_push, take_more, take-append-le}
+use Rattle.std.proofs.lemmas.List.{get_or_push, get_or_append_left, length_push, take_more}
 use Rattle.std.proofs.Math.Seq.{take-length, take-append_seam}
 use Rattle.std.proofs.Math.Nat.{le-mul_of_pos_right}
 use Rattle.std.proofs.lemmas.Slice.Eq.{bytes_eq-Decides}
-use Rattle.std.proofs.lemmas.Fmt.{decimal_by_steps, decimal_nonempty}
+use Rattle.std.proofs.lemmas.Fmt.{decimal_by_steps}
 use Rattle.text_words.specs.Numbers.{number_of, number_from}
 use Rattle.text_words.specs.Sizes.{unit_of, units, size_by, size_of, IsSize, is_eof, end_of, IsEnd}
 use Rattle.text_words.proofs.Decimals.{number_takes, number_again}

@@ -1,11 +1,11 @@
 -- What each word is spelled as, both ways.
-use Rattle.std.proofs.Common.{◌≡◌, ℕ, ◌+◌, ◌^◌, ◌<◌, ◌≤◌, Bool, true, false, cond, ◌&&◌, eqb, leb, ltb, List, [], ◌∷◌, length, Option, Some, None, refl, sym, ap, ◌∙◌, arith}
+use Rattle.std.proofs.Common.{◌≡◌, ℕ, ◌^◌, ◌<◌, ◌≤◌, true, false, ◌&&◌, eqb, leb, ltb, List, [], ◌∷◌, length, Option, Some, None, refl, sym, ap, ◌∙◌, arith}
 use Rattle.std.specs.Prelude.{option_and_then, ◌↔◌}
 use Rattle.std.specs.List.{list_all}
 use Rattle.std.specs.Fmt.{decimal}
 use Rattle.std.proofs.lemmas.Bool.{cond_both, and_parts, and_from, eqb-true, leb-true, le-leb, false_from_ne_true}
 use Rattle.text_words.specs.Numbers.{number_of, kept, number_from}
-use Rattle.text_words.specs.Names.{may_stand, is_name_to, is_name}
+use Rattle.text_words.specs.Names.{may_stand, is_name_to}
 use Rattle.text_words.specs.Pieces.{Lacks}
 use Rattle.text_words.proofs.Decimals.{number_takes, number_again}
 

@@ -25,10 +25,13 @@ Lacks-append sep [] ys h k = k
 Lacks-append sep (x ∷ xs) ys h k = (h.0, Lacks-append sep xs ys h.1 k)
 
 -- a number has digits alone
+pub digits_lack : (sep n : ℕ) → ((d : ℕ) → d < 10 → 48 + d ≡ sep → ⊥) → n < 2 ^ 64 → Lacks sep (decimal n)
+digits_lack sep n none lt =
+    decimal_by_steps (λ m ds. Lacks sep ds) (λ m h. (ne_eqb (48 + m) sep (none m h), tt))
+    (λ m ds h ih. Lacks-append sep ds ((48 + m % 10) ∷ []) ih (ne_eqb (48 + m % 10) sep (none (m % 10) (omega arith)), tt)) n lt
+
 pub decimal_lacks : (sep n : ℕ) → sep < 48 → n < 2 ^ 64 → Lacks sep (decimal n)
-decimal_lacks sep n low lt =
-    decimal_by_steps (λ m ds. Lacks sep ds) (λ m h. (ne_eqb (48 + m) sep (λ e. omega arith), tt))
-    (λ m ds h ih. Lacks-append sep ds ((48 + m % 10) ∷ []) ih (ne_eqb (48 + m % 10) sep (λ e. omega arith), tt)) n lt
+decimal_lacks sep n low lt = digits_lack sep n (λ d h e. omega arith) lt
 
 -- where no word is empty, none is dropped
 pub filter-full : (texts : List (List ℕ)) → AllByRecursion (λ text. eqb (length text) 0 ≡ false) texts → filter (λ text. not (eqb (length text) 0)) texts ≡ texts

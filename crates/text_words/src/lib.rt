@@ -20,7 +20,7 @@ pub use cursor::next_word;
 pub use cuts::cut;
 pub use flr_base::{put_decimal, put_hex};
 pub use lines::next_line;
-pub use lists::{Item, list, put_list};
+pub use lists::{Item, call_list, id_list, left_list, list, number_list, object_list, put_list};
 pub use names::{is_name, is_name_to};
 pub use numbers::{number, number_in, number_to};
 pub use pieces::{line_words, parts};

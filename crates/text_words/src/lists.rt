@@ -1,10 +1,12 @@
-ghost use Rattle.std.specs.Prelude.{◌≡◌, ◌++◌, ◌∷◌, map, IfOk, OnOk};
+ghost use Rattle.std.specs.Prelude.{◌≡◌, ◌++◌, ◌∷◌, ◌<◌, ◌^◌, map, IfOk, OnOk};
+ghost use Rattle.std.specs.Fmt.{decimal};
 ghost use Rattle.std.specs.Option.{option_map};
 ghost use Rattle.std.specs.List.{flat_map};
-ghost use Rattle.text_words.specs.Lists.{items_of, list_of, list_text};
+ghost use Rattle.text_words.specs.Lists.{SpellsList, items_of, list_of, list_text};
+ghost use Rattle.text_words.specs.Items.{object_text, call_text, left_text, IsObjectItem, IsCallItem, IsLeftItem};
 
 use crate::pieces::parts;
-use flr_base::NoMemory;
+use flr_base::{FailedCall, Left, NoMemory, ObjectId};
 use std::alloc::Global;
 
 /// What may stand in a list that is written as one word.
@@ -75,4 +77,39 @@ pub fn list<T: Item + Drop>(alloc: Global, word: &[u8]) -> Result<Option<Vec<T>>
     }
     let words = parts(alloc, word, b',')?;
     read_items(alloc, &words)
+}
+
+/// The numbers below 2^64 that the word spells.
+pub fn number_list(alloc: Global, word: &[u8]) -> Result<Option<Vec<u64>>, NoMemory>
+    ensures spelled { IfOk result (λ found. SpellsList decimal (λ n. n < 2 ^ 64) word.now (option_map (λ items. items.items) found)) }
+{
+    list(alloc, word)
+}
+
+/// The ids, numbers below 2^32, that the word spells.
+pub fn id_list(alloc: Global, word: &[u8]) -> Result<Option<Vec<u32>>, NoMemory>
+    ensures spelled { IfOk result (λ found. SpellsList decimal (λ n. n < 2 ^ 32) word.now (option_map (λ items. items.items) found)) }
+{
+    list(alloc, word)
+}
+
+/// The objects that the word spells.
+pub fn object_list(alloc: Global, word: &[u8]) -> Result<Option<Vec<ObjectId>>, NoMemory>
+    ensures spelled { IfOk result (λ found. SpellsList object_text IsObjectItem word.now (option_map (λ items. items.items) found)) }
+{
+    list(alloc, word)
+}
+
+/// The failed calls that the word spells.
+pub fn call_list(alloc: Global, word: &[u8]) -> Result<Option<Vec<FailedCall>>, NoMemory>
+    ensures spelled { IfOk result (λ found. SpellsList call_text IsCallItem word.now (option_map (λ items. items.items) found)) }
+{
+    list(alloc, word)
+}
+
+/// The components that were left that the word spells.
+pub fn left_list(alloc: Global, word: &[u8]) -> Result<Option<Vec<Left>>, NoMemory>
+    ensures spelled { IfOk result (λ found. SpellsList left_text IsLeftItem word.now (option_map (λ items. items.items) found)) }
+{
+    list(alloc, word)
 }

@@ -175,11 +175,11 @@ fn again<T: Item + Drop>(alloc: Global, word: &[u8]) -> Result<Option<Vec<u8>>, 
 #[test]
 fn lists(rt: HostRuntime) -> Result<(), Fail> {
     let alloc = rt.alloc();
-    let numbers = list::<u64>(alloc, b"1,18446744073709551615,3")?.ok_or("numbers")?;
+    let numbers = number_list(alloc, b"1,18446744073709551615,3")?.ok_or("numbers")?;
     assert_eq!(rt; numbers.as_slice(), [1, u64::MAX, 3].as_slice());
-    let ids = list::<u32>(alloc, b"65537")?.ok_or("ids")?;
+    let ids = id_list(alloc, b"65537")?.ok_or("ids")?;
     assert_eq!(rt; ids.as_slice(), [65537].as_slice());
-    let objects = list::<ObjectId>(alloc, b"0.1,63.4294967295")?.ok_or("objects")?;
+    let objects = object_list(alloc, b"0.1,63.4294967295")?.ok_or("objects")?;
     let expected = [
         ObjectId {
             target: 0,
@@ -192,7 +192,7 @@ fn lists(rt: HostRuntime) -> Result<(), Fail> {
     ];
     assert_eq!(rt; objects.as_slice(), expected.as_slice());
     let call = FailedCall { target: 2, call: 9 };
-    let lefts = list::<Left>(alloc, b"65537@2.9")?.ok_or("lefts")?;
+    let lefts = left_list(alloc, b"65537@2.9")?.ok_or("lefts")?;
     assert_eq!(rt;
         lefts.as_slice(),
         [Left {
@@ -217,7 +217,7 @@ fn lists(rt: HostRuntime) -> Result<(), Fail> {
         b"-,1.2",
     ];
     for word in bad.iter() {
-        assert!(rt; list::<FailedCall>(alloc, word)?.is_none());
+        assert!(rt; call_list(alloc, word)?.is_none());
     }
     Ok(())
 }

@@ -1,7 +1,7 @@
-use Rattle.std.proofs.Common.{sym, ap, ◌∙◌, arith}
+use Rattle.std.proofs.Common.{sym, arith}
 use denote.Ref.{Bor}
 use Rattle.std.proofs.Common.{ℕ, List, []}
-use Rattle.text_words.proofs.ListLaws.{ItemsSoFar, items_none, items_more}
+use Rattle.text_words.proofs.ListLaws.{items_none, items_more}
 use Rattle.text_words.proofs.lists.read_items.Goals as goal
 
 abbrev nothing : Bor (List ℕ)
