@@ -1,6 +1,6 @@
 -- The scan reads each spelling, and each state of it stands for the bytes that lead to it.
-use Rattle.std.proofs.Common.{◌≡◌, ◌≢◌, ℕ, zero, suc, ◌+◌, ◌*◌, ◌-◌, ◌/◌, ◌%◌, ◌^◌, ◌<◌, ◌≤◌, Bool, true, false, cond, eqb, ltb, leb, not, ◌&&◌, List, [], ◌∷◌, ◌++◌, length, map, replicate, Option, Some, None, refl, sym, ap, subst, ◌∙◌, append_assoc, arith, rules, inl, inr}
-use Rattle.std.specs.Prelude.{MatchOption, MatchResult, option_and_then, Result, Ok, Err, get_or, take, drop}
+use Rattle.std.proofs.Common.{◌≡◌, ◌≢◌, ℕ, ◌+◌, ◌*◌, ◌-◌, ◌/◌, ◌%◌, ◌^◌, ◌<◌, ◌≤◌, true, false, cond, eqb, ltb, leb, not, ◌&&◌, List, [], ◌∷◌, ◌++◌, length, replicate, Option, Some, None, refl, sym, ap, subst, ◌∙◌, append_assoc, arith, inl, inr}
+use Rattle.std.specs.Prelude.{MatchOption, MatchResult, option_and_then, Result, Ok, Err, get_or, take}
 use Rattle.std.proofs.lemmas.Grind.{common_steps}
 use Rattle.std.proofs.lemmas.List.Folds.{length-flat_map-take}
 use Rattle.std.proofs.lemmas.List.{length-replicate, length-take, length-append, replicate_more}
@@ -11,12 +11,12 @@ use Rattle.std.proofs.lemmas.List.{take_more}
 use Rattle.std.specs.Option.{option_eq}
 use Rattle.std.specs.List.{flat_map}
 use Rattle.std.specs.Fmt.{decimal, digit_glyph}
-use Rattle.std.proofs.lemmas.Bool.{not-true, cond_both, eqb-true, eqb-false, leb-true, leb-false, ltb-true, and_parts, cases_eq, cases_lt, ne_eqb, lt-ltb, le-leb}
+use Rattle.std.proofs.lemmas.Bool.{not-true, cond_both, eqb-true, eqb-false, leb-true, and_parts, cases_eq, ne_eqb, lt-ltb, le-leb}
 use Rattle.std.proofs.lemmas.Bool.Decides.{nat_tests}
 use Rattle.std.proofs.lemmas.Fmt.{decimal_digit, decimal_step, decimal_by_steps}
-use Rattle.std.proofs.lemmas.List.{append-nil, map-append}
+use Rattle.std.proofs.lemmas.List.{append-nil}
 use Rattle.flr_base.specs.Faults.{Begins, IsFirstFault}
-use Rattle.flr_base.proofs.Machine.{run, run-append, run-append_some, Reads, reached, fault_inside, fault_at_end}
+use Rattle.flr_base.proofs.Machine.{run, run-append_some, Reads, reached, fault_inside, fault_at_end}
 use Rattle.flr_base.specs.declared.runs.run.Run.{Run}
 use Rattle.flr_base.specs.declared.runs.scan.Phase.{Phase}
 use Rattle.flr_base.specs.declared.runs.scan.Phase.TheVariants.{Start, Dash, High, Low, Star, First, Count}

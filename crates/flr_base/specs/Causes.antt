@@ -1,5 +1,5 @@
 -- When an end may be blamed for a failure.
-use Rattle.std.specs.Prelude.{◌≡◌, ◌≤◌, ◌+◌, ◌-◌, ◌^◌, ℕ, min, Result, OnErr}
+use Rattle.std.specs.Prelude.{◌≤◌, ◌+◌, ◌-◌, ◌^◌, ℕ, min, Result, OnErr}
 
 -- the count of faults has risen, or stands at its last value
 abbrev pub Rose : ℕ → ℕ → Type 0

@@ -1,6 +1,6 @@
 -- What a step wants of the servers holds in every state of a run.
-use Rattle.std.proofs.Common.{◌≡◌, ℕ, zero, suc, ◌+◌, ◌-◌, ◌*◌, ◌^◌, ◌<◌, ◌≤◌, List, [], ◌∷◌, length, replicate, refl, sym, ap, subst, ◌∙◌, arith, inl, inr}
-use Rattle.std.specs.Prelude.{Option, None, Some, slice_get, slice_index_or}
+use Rattle.std.proofs.Common.{◌≡◌, ℕ, zero, suc, ◌-◌, ◌^◌, ◌<◌, ◌≤◌, List, [], ◌∷◌, length, replicate, sym, ap, subst, ◌∙◌, arith, inl, inr}
+use Rattle.std.specs.Prelude.{Option, Some, slice_get, slice_index_or}
 use Rattle.flr_base.specs.declared.reply.Entry.{Entry}
 use Rattle.script_text.specs.declared.command.Command.{Command}
 use Rattle.script_text.specs.declared.command.Command.TheVariants as command
@@ -11,13 +11,13 @@ use Rattle.flr_world.specs.declared.locks.Lock.{Lock}
 use Rattle.flr_world.specs.declared.call.Phase.{Phase}
 use Rattle.flr_world.specs.declared.call.Phase.TheVariants as phase
 use Rattle.flr_world.specs.declared.client.Client.{Client}
-use Rattle.flr_world.specs.Servers.{TargetView, shared, file_at, no_file, target_at}
+use Rattle.flr_world.specs.Servers.{TargetView, shared, file_at, target_at}
 use Rattle.flr_world.specs.Steps.{StepFits, EndFits, IsThere, opened_file}
 use Rattle.flr_world.specs.States.{State, start, new_client, IsRun}
-use Rattle.flr_world.proofs.Invariant.{Parts, whole, CallGood, PhaseGood, spent, Made}
+use Rattle.flr_world.proofs.Invariant.{Parts, PhaseGood, spent, Made}
 use Rattle.flr_world.proofs.Prefixes.{get_within}
 use Rattle.flr_world.proofs.Steps.{Good, commanded_on}
-use Rattle.flr_world.proofs.Theorem.{Reached, reached}
+use Rattle.flr_world.proofs.Theorem.{reached}
 
 -- the state that a world shows
 abbrev pub shown : ScriptView → List File → TargetView → List Lock → Client → List Entry → List ℕ → State

@@ -1,5 +1,5 @@
 -- The inductive invariant of a run, once its file is made.
-use Rattle.std.proofs.Common.{◌≡◌, ℕ, ◌+◌, ◌-◌, ◌*◌, ◌<◌, ◌≤◌, List, [], ◌∷◌, ◌++◌, length, get_or}
+use Rattle.std.proofs.Common.{◌≡◌, ℕ, ◌+◌, ◌-◌, ◌*◌, ◌<◌, ◌≤◌, List, [], ◌∷◌, length, get_or}
 use Rattle.std.specs.Prelude.{Option, None, Some, true, false, if◌then◌else◌}
 use Rattle.std.specs.List.{flat_map, AllByRecursion}
 use Rattle.flr_base.specs.Bytes.{piece}
@@ -17,7 +17,7 @@ use Rattle.flr_world.specs.declared.call.Phase.{Phase}
 use Rattle.flr_world.specs.declared.call.Phase.TheVariants as phase
 use Rattle.flr_world.specs.declared.client.Client.{Client}
 use Rattle.flr_world.specs.States.{State, after, start}
-use Rattle.flr_world.specs.Stores.{Plain, IsLegal, store_after}
+use Rattle.flr_world.specs.Stores.{IsLegal, store_after}
 use Rattle.flr_world.specs.Histories.{IsStepOf, IsWithinInterval, ArePointsAfter, FollowInOrder}
 use Rattle.flr_world.specs.Takes.{IsOpenedAt, AreTakes, EachAnswered}
 

@@ -1,40 +1,23 @@
 -- What each step of a run leaves, kind by kind.
-use Rattle.std.proofs.Common.{◌≡◌, ℕ, zero, suc, ◌+◌, ◌-◌, ◌*◌, ◌<◌, ◌≤◌, max, List, [], ◌∷◌, ◌++◌, length, map, get_or, take, drop, refl, sym, ap, subst, ◌∙◌, arith, inl, inr, Bool, true, false, cond}
-use Rattle.std.specs.Prelude.{Option, None, Some, ◌⊎◌, slice_get, if◌then◌else◌}
-use Rattle.std.specs.List.{AllByRecursion, flat_map}
-use Rattle.std.specs.Str.{bytes_eq}
-use Rattle.std.proofs.lemmas.List.{length_push, length-map, append-nil, length-append}
-use Rattle.flr_base.specs.Bytes.{zeros, overlay, piece}
-use Rattle.flr_base.proofs.Bytes.{length-overlay, overlay_in, overlay_out, piece_cut, length-piece}
+use Rattle.std.proofs.Common.{◌≡◌, ℕ, ◌+◌, ◌<◌, ◌≤◌, List, [], ◌∷◌, ◌++◌, length, map, refl, ap, subst, ◌∙◌, arith, Bool, true, false, cond}
+use Rattle.std.specs.Prelude.{Option, Some, slice_get}
+use Rattle.std.proofs.lemmas.List.{length_push}
 use Rattle.flr_base.specs.declared.reply.Entry.{Entry}
-use Rattle.flr_base.specs.declared.reply.Reply.{Reply}
-use Rattle.flr_base.specs.declared.reply.Reply.TheVariants as reply
-use Rattle.flr_base.specs.declared.reply.Take.{Take}
-use Rattle.flr_base.specs.declared.reply.TakeFrom.TheVariants.{Hole, Object}
 use Rattle.script_text.specs.declared.command.Command.{Command}
-use Rattle.script_text.specs.declared.command.Command.TheVariants as command
-use Rattle.script_text.specs.Commands.{IsOn}
-use Rattle.script_text.specs.Scripts.{ScriptView, one_client}
-use Rattle.flr_world.specs.declared.files.Cookie.{Cookie}
-use Rattle.flr_world.specs.declared.files.Layout.{Layout}
+use Rattle.script_text.specs.Scripts.{one_client}
 use Rattle.flr_world.specs.declared.files.File.{File}
 use Rattle.flr_world.specs.declared.call.Opened.{Opened}
 use Rattle.flr_world.specs.declared.call.Phase.{Phase}
-use Rattle.flr_world.specs.declared.call.Phase.TheVariants as phase
 use Rattle.flr_world.specs.declared.client.Client.{Client}
-use Rattle.flr_world.specs.Servers.{place_of, ready_layout, next_cookie, with_holder, with_writer, confirmed, committed, first_object, held_by_others}
+use Rattle.flr_world.specs.Servers.{held_by_others}
 use Rattle.flr_world.specs.declared.target.CallEntry.{CallEntry}
 use Rattle.flr_world.specs.declared.locks.Lock.{Lock}
-use Rattle.flr_world.specs.Steps.{Outcome, step_of, lock_of, write_call, read_call, take_of, read_begins}
-use Rattle.flr_world.specs.declared.locks.Mode.TheVariants as mode
-use Rattle.flr_world.specs.Clients.{going, over, entry, first_of, client_by, client_next}
-use Rattle.flr_world.specs.States.{State, Next, Stepped, next, next_by, after, start, closed}
-use Rattle.flr_world.specs.Stores.{Plain}
-use Rattle.flr_world.specs.Histories.{IsStepOf}
-use Rattle.flr_world.specs.Takes.{IsStepAt, IsOpenedAt, IsReadAt, AreTakes, HasRightTakes}
-use Rattle.flr_world.proofs.Invariant.{Parts, whole, content_of, Same, AllEnded, Past, Runs, IsSent, IsTaken, CallGood, PhaseGood, spent, Numbers, Made}
-use Rattle.flr_world.proofs.Prefixes.{after_more, step_now, step_more, is_step_more, is_step_now, is_step_within, get_less, get_last}
-use Rattle.flr_world.proofs.Past.{all_more, opened_more, takes_more, past_more, past_push, Adds, past_close, ended_close}
+use Rattle.flr_world.specs.Steps.{Outcome, step_of}
+use Rattle.flr_world.specs.Clients.{going, over, first_of, client_by, client_next}
+use Rattle.flr_world.specs.States.{Next, Stepped, next, next_by, after, start, closed}
+use Rattle.flr_world.proofs.Invariant.{Parts, whole, content_of, AllEnded, Runs, Numbers, Made}
+use Rattle.flr_world.proofs.Prefixes.{after_more, step_now, is_step_more, is_step_now}
+use Rattle.flr_world.proofs.Past.{all_more, opened_more, past_more, past_push, Adds, past_close}
 
 -- ---- the next step, by the command and the phase
 

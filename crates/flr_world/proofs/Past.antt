@@ -1,9 +1,9 @@
 -- The calls so far, as one more step is made.
 use Rattle.std.proofs.Common.{◌≡◌, ℕ, zero, suc, ◌+◌, ◌-◌, ◌<◌, ◌≤◌, List, [], ◌∷◌, ◌++◌, length, map, refl, sym, ap, subst, ◌∙◌, arith, inl, inr, Bool, true, false}
-use Rattle.std.specs.Prelude.{Option, None, Some, ◌⊎◌, ◌==◌, ◌&&◌, if◌then◌else◌}
+use Rattle.std.specs.Prelude.{Option, ◌⊎◌, ◌==◌, ◌&&◌, if◌then◌else◌}
 use Rattle.std.specs.List.{AllByRecursion}
-use Rattle.std.proofs.lemmas.List.{length_push, length-map}
-use Rattle.std.proofs.lemmas.Bool.{eq-eqb, eqb-true, and_parts, ne_eqb}
+use Rattle.std.proofs.lemmas.List.{length_push}
+use Rattle.std.proofs.lemmas.Bool.{eq-eqb, eqb-true, and_parts}
 use Rattle.flr_base.specs.declared.reply.Entry.{Entry}
 use Rattle.flr_base.specs.declared.reply.Reply.{Reply}
 use Rattle.flr_base.specs.declared.reply.Reply.TheVariants as reply
@@ -17,8 +17,8 @@ use Rattle.flr_world.specs.declared.files.Layout.{Layout}
 use Rattle.flr_world.specs.Servers.{file_at}
 use Rattle.flr_world.specs.States.{closed}
 use Rattle.flr_world.specs.Stores.{Plain, AllowsIf, effect_if, command_of, IsLegal, store_after}
-use Rattle.flr_world.specs.Histories.{IsStepOf, IsWithinInterval, ArePointsAfter, FollowInOrder, HasEnded}
-use Rattle.flr_world.specs.Takes.{IsStepAt, IsOpenedAt, IsReadAt, IsFrom, AreTakes, HasRightTakes, IsAnswered, EachAnswered}
+use Rattle.flr_world.specs.Histories.{IsStepOf, IsWithinInterval, ArePointsAfter, FollowInOrder}
+use Rattle.flr_world.specs.Takes.{IsOpenedAt, IsReadAt, IsFrom, AreTakes, HasRightTakes, IsAnswered, EachAnswered}
 use Rattle.flr_world.proofs.Invariant.{AllEnded, Past}
 use Rattle.flr_world.proofs.Prefixes.{step_more, is_step_more, is_step_now, is_step_within, get_less}
 

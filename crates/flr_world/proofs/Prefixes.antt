@@ -2,9 +2,9 @@
 use Rattle.std.proofs.Common.{◌≡◌, ℕ, zero, suc, ◌+◌, ◌-◌, ◌<◌, ◌≤◌, List, [], ◌∷◌, ◌++◌, length, take, refl, sym, ap, subst, ◌∙◌, arith}
 use Rattle.std.specs.Prelude.{Option, Some, None, slice_get}
 use Rattle.std.specs.Option.{option_and_then}
-use Rattle.std.proofs.lemmas.List.{length-append, length_push}
+use Rattle.std.proofs.lemmas.List.{length_push}
 use Rattle.script_text.specs.Scripts.{ScriptView}
-use Rattle.flr_world.specs.States.{State, Next, Stepped, Finished, Unknown, next, after, state_of, state_at, start}
+use Rattle.flr_world.specs.States.{State, Next, Stepped, Finished, Unknown, next, after, state_of, start}
 use Rattle.flr_world.specs.Histories.{IsStepOf}
 use Rattle.flr_world.specs.Takes.{IsStateAt, IsStepAt}
 

@@ -1,5 +1,5 @@
 -- The world's steps are the next states.
-use Rattle.std.proofs.Common.{◌≡◌, ℕ, zero, suc, ◌+◌, ◌-◌, List, [], ◌∷◌, ◌++◌, length, refl, sym, ap, subst, ◌∙◌, arith}
+use Rattle.std.proofs.Common.{◌≡◌, ℕ, zero, suc, ◌+◌, List, [], ◌∷◌, ◌++◌, length, refl, sym, ap, subst, ◌∙◌}
 use Rattle.std.specs.Prelude.{Option, None, Some, slice_get}
 use Rattle.flr_base.specs.declared.reply.Entry.{Entry}
 use Rattle.script_text.specs.declared.command.Command.{Command}
@@ -8,9 +8,9 @@ use Rattle.flr_world.specs.declared.files.File.{File}
 use Rattle.flr_world.specs.declared.locks.Lock.{Lock}
 use Rattle.flr_world.specs.declared.client.Client.{Client}
 use Rattle.flr_world.specs.declared.client.Note.{Note}
-use Rattle.flr_world.specs.Servers.{Shared, TargetView, shared}
-use Rattle.flr_world.specs.Clients.{ClientNext, Moves, Ends, client_next}
-use Rattle.flr_world.specs.States.{State, Next, Stepped, Finished, Unknown, next, next_by, stepped, noted, place_in, after, start, IsRun}
+use Rattle.flr_world.specs.Servers.{TargetView, shared}
+use Rattle.flr_world.specs.Clients.{Moves, client_next}
+use Rattle.flr_world.specs.States.{State, Stepped, Finished, Unknown, next, next_by, noted, place_in, after, start, IsRun}
 use Rattle.flr_world.proofs.Prefixes.{after_more}
 use Rattle.flr_world.proofs.Conditions.{shown}
 

@@ -1,5 +1,5 @@
 -- Each step of each command keeps the invariant.
-use Rattle.std.proofs.Common.{◌≡◌, ℕ, zero, suc, ◌+◌, ◌-◌, ◌*◌, ◌<◌, ◌≤◌, max, List, [], ◌∷◌, ◌++◌, length, map, get_or, take, drop, refl, sym, ap, subst, ◌∙◌, arith, inl, inr, Bool, true, false, cond}
+use Rattle.std.proofs.Common.{◌≡◌, ℕ, zero, suc, ◌+◌, ◌-◌, ◌*◌, ◌<◌, ◌≤◌, max, List, [], ◌∷◌, ◌++◌, length, get_or, take, drop, refl, sym, ap, subst, ◌∙◌, arith, inl, inr, Bool, true, false, cond}
 use Rattle.std.specs.Prelude.{Option, None, Some, ◌⊎◌, slice_get, if◌then◌else◌}
 use Rattle.std.specs.List.{AllByRecursion, flat_map}
 use Rattle.std.specs.Str.{bytes_eq}
@@ -16,24 +16,23 @@ use Rattle.flr_base.specs.declared.reply.TakeFrom.TheVariants.{Hole, Object}
 use Rattle.script_text.specs.declared.command.Command.{Command}
 use Rattle.script_text.specs.declared.command.Command.TheVariants as command
 use Rattle.script_text.specs.Commands.{IsOn}
-use Rattle.script_text.specs.Scripts.{ScriptView, one_client}
+use Rattle.script_text.specs.Scripts.{one_client}
 use Rattle.flr_world.specs.declared.files.File.{File}
 use Rattle.flr_world.specs.declared.files.Layout.{Layout}
 use Rattle.flr_world.specs.declared.call.Opened.{Opened}
 use Rattle.flr_world.specs.declared.call.Phase.{Phase}
 use Rattle.flr_world.specs.declared.call.Phase.TheVariants as phase
-use Rattle.flr_world.specs.declared.client.Client.{Client}
 use Rattle.flr_world.specs.declared.locks.Mode.TheVariants as mode
 use Rattle.flr_world.specs.declared.locks.Lock.{Lock}
 use Rattle.flr_world.specs.declared.target.CallEntry.{CallEntry}
-use Rattle.flr_world.specs.Servers.{place_of, ready_layout, next_cookie, with_holder, with_writer, confirmed, committed, first_object, held_by_others, set_file, file_at}
-use Rattle.flr_world.specs.Steps.{Outcome, Going, Fixed, Ended, Answered, step_of, lock_of, write_call, read_call, take_of, opened, write_opens, read_opens, read_begins}
-use Rattle.flr_world.specs.Clients.{going, over, entry, first_of, client_by, client_next}
-use Rattle.flr_world.specs.States.{State, Next, Stepped, Finished, Unknown, next, next_by, after, start, closed}
-use Rattle.flr_world.specs.Stores.{Plain, Allows, AllowsIf, effect_if, effect, with_bytes, command_of, plain_of}
-use Rattle.flr_world.specs.Takes.{IsReadAt, IsFrom, AreTakes, HasRightTakes, IsAnswered}
-use Rattle.flr_world.proofs.Invariant.{Parts, whole, content_of, Same, AllEnded, Past, Runs, IsSent, IsTaken, CallGood, PhaseGood, spent, Numbers, Made}
-use Rattle.flr_world.proofs.Prefixes.{step_now, is_step_more, is_step_now, is_step_within, get_last, get_within}
+use Rattle.flr_world.specs.Servers.{place_of, ready_layout, with_holder, with_writer, confirmed, committed, first_object, set_file, file_at}
+use Rattle.flr_world.specs.Steps.{Going, Fixed, lock_of, write_call, read_call, take_of, opened, write_opens, read_opens}
+use Rattle.flr_world.specs.Clients.{going, entry, client_next}
+use Rattle.flr_world.specs.States.{State, Stepped, Finished, next, next_by, closed}
+use Rattle.flr_world.specs.Stores.{AllowsIf, effect_if, with_bytes, command_of, plain_of}
+use Rattle.flr_world.specs.Takes.{IsReadAt}
+use Rattle.flr_world.proofs.Invariant.{Parts, whole, content_of, Same, AllEnded, Runs, IsSent, IsTaken, CallGood, PhaseGood, spent, Numbers, Made}
+use Rattle.flr_world.proofs.Prefixes.{step_now, is_step_more, is_step_now, get_last, get_within}
 use Rattle.flr_world.proofs.Past.{opened_more, takes_more, Adds, ended_close}
 use Rattle.flr_world.proofs.Moves.{place_of_step, by_outcome, next_is, goes, fixes, ends, content_made, longer, runs_more, runs_now, made_goes, made_fixes, made_ends}
 

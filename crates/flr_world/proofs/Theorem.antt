@@ -1,5 +1,5 @@
 -- What holds after every schedule of every script.
-use Rattle.std.proofs.Common.{◌≡◌, ℕ, zero, suc, ◌+◌, ◌-◌, ◌*◌, ◌^◌, ◌<◌, ◌≤◌, List, [], ◌∷◌, ◌++◌, length, map, get_or, refl, sym, ap, subst, ◌∙◌, arith, inl, inr, Bool, true, false, cond, eqb}
+use Rattle.std.proofs.Common.{◌≡◌, ℕ, zero, suc, ◌<◌, ◌≤◌, List, [], ◌∷◌, length, map, get_or, refl, sym, ap, subst, ◌∙◌, arith, inl, inr, Bool, cond, eqb}
 use Rattle.std.specs.Prelude.{Option, None, Some, ◌⊎◌, slice_get}
 use Rattle.std.specs.Option.{option_and_then}
 use Rattle.std.specs.List.{AllByRecursion, filter}
@@ -9,22 +9,19 @@ use Rattle.flr_base.specs.declared.reply.Reply.TheVariants as reply
 use Rattle.script_text.specs.declared.command.Command.{Command}
 use Rattle.script_text.specs.declared.command.Command.TheVariants as command
 use Rattle.script_text.specs.Commands.{IsOn}
-use Rattle.script_text.specs.Scripts.{ScriptView, one_client, IsScript, commands_of, command_after}
-use Rattle.flr_world.specs.declared.files.File.{File}
+use Rattle.script_text.specs.Scripts.{ScriptView, one_client, IsScript}
 use Rattle.flr_world.specs.declared.call.Phase.{Phase}
 use Rattle.flr_world.specs.declared.call.Phase.TheVariants as phase
-use Rattle.flr_world.specs.declared.client.Client.{Client}
-use Rattle.flr_world.specs.Servers.{TargetView, new_file, file_at, target_at}
-use Rattle.flr_world.specs.Steps.{StepFits, EndFits, IsThere, opened_file}
+use Rattle.flr_world.specs.Servers.{new_file}
 use Rattle.flr_world.specs.Clients.{over, entry}
-use Rattle.flr_world.specs.States.{State, Next, Stepped, Finished, Unknown, next, after, state_of, start, new_client, client_at, IsRun}
-use Rattle.flr_world.specs.Stores.{Plain, store_of, bytes_at}
+use Rattle.flr_world.specs.States.{State, Next, Stepped, Finished, Unknown, next, after, state_of, start, new_client, IsRun}
+use Rattle.flr_world.specs.Stores.{Plain, bytes_at}
 use Rattle.flr_world.specs.Histories.{FollowInOrder, IsLinear}
 use Rattle.flr_world.specs.Takes.{EachAnswered}
-use Rattle.flr_world.specs.Honesty.{content, held, PhaseOpens, IsOpen, IsHonestFile, IsHonest}
+use Rattle.flr_world.specs.Honesty.{PhaseOpens, IsOpen, IsHonestFile, IsHonest}
 use Rattle.flr_world.specs.Soundness.{IsSound}
-use Rattle.flr_world.proofs.Invariant.{Parts, whole, content_of, Same, Past, Runs, CallGood, PhaseGood, spent, Numbers, Made}
-use Rattle.flr_world.proofs.Steps.{Good, good_next, commanded_on}
+use Rattle.flr_world.proofs.Invariant.{Parts, whole, content_of, PhaseGood, Made}
+use Rattle.flr_world.proofs.Steps.{Good, good_next}
 
 -- ---- the first step makes the file
 

@@ -1,15 +1,14 @@
 -- Honest states: what the servers keep against the plain files.
-use Rattle.std.specs.Prelude.{◌≡◌, ℕ, ◌+◌, ◌-◌, ◌<◌, ◌≤◌, List, [], length, map, false, true, if◌then◌else◌, Option, Some, slice_get, get_or}
+use Rattle.std.specs.Prelude.{◌≡◌, ℕ, ◌+◌, ◌<◌, ◌≤◌, List, [], length, map, if◌then◌else◌, Some, get_or}
 use Rattle.script_text.specs.declared.command.Command.{Command}
 use Rattle.script_text.specs.declared.command.Command.TheVariants.{Write}
 use Rattle.script_text.specs.Scripts.{command_after}
 use Rattle.flr_world.specs.declared.files.File.{File}
 use Rattle.flr_world.specs.declared.files.Layout.{Layout}
-use Rattle.flr_world.specs.declared.call.Opened.{Opened}
 use Rattle.flr_world.specs.declared.call.Phase.{Phase}
 use Rattle.flr_world.specs.declared.call.Phase.TheVariants as phase
 use Rattle.flr_world.specs.declared.client.Client.{Client}
-use Rattle.flr_world.specs.Servers.{Shared, TargetView, target_at, object_at, file_at}
+use Rattle.flr_world.specs.Servers.{TargetView, target_at, object_at, file_at}
 use Rattle.flr_world.specs.States.{State, client_at}
 use Rattle.flr_world.specs.Stores.{Plain, store_of, bytes_at}
 

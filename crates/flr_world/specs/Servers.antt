@@ -1,5 +1,5 @@
 -- What the servers keep: files, targets and extent locks.
-use Rattle.std.specs.Prelude.{◌≡◌, ℕ, ◌+◌, ◌-◌, max, List, [], ◌∷◌, ◌++◌, ◌==◌, not, false, true, if◌then◌else◌, Option, None, Some, slice_set, slice_index_or}
+use Rattle.std.specs.Prelude.{ℕ, ◌+◌, ◌-◌, max, List, [], ◌∷◌, ◌++◌, ◌==◌, not, false, true, if◌then◌else◌, Option, None, Some, slice_set, slice_index_or}
 use Rattle.std.specs.List.{filter}
 use Rattle.std.specs.Str.{bytes_eq}
 use Rattle.flr_base.specs.declared.reply.ObjectId.{ObjectId}

@@ -1,5 +1,4 @@
 -- What holds after every step of every schedule.
-use Rattle.std.specs.Prelude.{ℕ}
 use Rattle.flr_world.specs.States.{State}
 use Rattle.flr_world.specs.Histories.{IsLinear}
 use Rattle.flr_world.specs.Takes.{EachAnswered}

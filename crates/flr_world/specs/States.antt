@@ -9,7 +9,7 @@ use Rattle.flr_world.specs.declared.client.Note.{Note}
 use Rattle.flr_world.specs.declared.client.Note.TheVariants.{Nothing, Adds, Closes}
 use Rattle.flr_world.specs.declared.world.StepAnswer.{StepAnswer}
 use Rattle.flr_world.specs.declared.world.StepAnswer.TheVariants as answer
-use Rattle.flr_world.specs.Servers.{Shared, TargetView}
+use Rattle.flr_world.specs.Servers.{Shared}
 use Rattle.flr_world.specs.Clients.{ClientNext, Moves, Ends, client_next}
 
 -- the script, what the servers keep, each client, the calls whose answer is fixed, and who stepped so far

@@ -1,5 +1,5 @@
 -- Right takes: who answered each byte of a read.
-use Rattle.std.specs.Prelude.{◌≡◌, ℕ, ◌+◌, ◌-◌, ◌<◌, ◌≤◌, List, [], ◌∷◌, ◌++◌, length, take, false, true, None, Some, slice_get}
+use Rattle.std.specs.Prelude.{◌≡◌, ℕ, ◌+◌, ◌-◌, ◌<◌, ◌≤◌, List, [], ◌∷◌, length, take, false, true, Some, slice_get}
 use Rattle.std.specs.List.{flat_map}
 use Rattle.flr_base.specs.Bytes.{zeros, piece}
 use Rattle.flr_base.specs.declared.reply.Entry.{Entry}
@@ -8,7 +8,6 @@ use Rattle.flr_base.specs.declared.reply.Reply.TheVariants.{Bytes}
 use Rattle.flr_base.specs.declared.reply.Take.{Take}
 use Rattle.flr_base.specs.declared.reply.TakeFrom.{TakeFrom}
 use Rattle.flr_base.specs.declared.reply.TakeFrom.TheVariants.{Hole, Object}
-use Rattle.script_text.specs.declared.command.Command.{Command}
 use Rattle.script_text.specs.declared.command.Command.TheVariants.{Read}
 use Rattle.script_text.specs.Scripts.{ScriptView}
 use Rattle.flr_world.specs.declared.files.Layout.{Layout}

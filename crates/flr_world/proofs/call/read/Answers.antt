@@ -1,7 +1,7 @@
 use Rattle.std.proofs.Common.{◌≡◌, ℕ, List, Option, Some, sym, subst, ap, ◌∙◌}
 use Rattle.flr_world.specs.declared.call.Phase.{Phase}
 use Rattle.flr_world.specs.Servers.{Shared, shared, place_of}
-use Rattle.flr_world.specs.Steps.{Outcome, Steps, read_at, read_opens}
+use Rattle.flr_world.specs.Steps.{Steps, read_at, read_opens}
 use Rattle.flr_world.proofs.call.read.Goals as goal
 
 pub returns-in-Some : goal.returns-in-Some

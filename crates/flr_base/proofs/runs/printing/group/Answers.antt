@@ -1,5 +1,5 @@
 use Rattle.std.proofs.Common.{◌≡◌, ◌∙◌, ap, Some, sym, arith}
-use Rattle.flr_base.proofs.RunLaws.{Grouped, grow_step, next_step, first_step}
+use Rattle.flr_base.proofs.RunLaws.{grow_step, next_step, first_step}
 use Rattle.flr_base.proofs.runs.printing.group.Goals as goal
 use Rattle.flr_base.proofs.runs.printing.group.Goals.{in-Some, in-Some-2+in_ok-push-in-Some-2, in-None}
 

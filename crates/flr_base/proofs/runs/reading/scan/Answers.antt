@@ -1,8 +1,6 @@
-use Rattle.std.proofs.Common.{◌≡◌, ◌+◌, refl, sym, ap, ◌∙◌, arith, take, Some, None, [], ◌++◌, ◌∷◌}
-use Rattle.flr_base.proofs.Machine.{run}
-use Rattle.flr_base.specs.declared.runs.scan.Move.TheVariants.{Go, Close, Stop}
-use Rattle.flr_base.specs.declared.runs.scan.Phase.TheVariants.{Start, High}
-use Rattle.flr_base.specs.Scan.{step}
+use Rattle.std.proofs.Common.{refl, sym, ap, ◌∙◌, arith, Some, None, [], ◌++◌, ◌∷◌}
+use Rattle.flr_base.specs.declared.runs.scan.Move.TheVariants.{Go, Close}
+use Rattle.flr_base.specs.declared.runs.scan.Phase.TheVariants.{High}
 use Rattle.flr_base.proofs.RunLaws.{stop_fault, one_more, all_read, ends_early, finished, last_after-push, not_finished}
 use Rattle.flr_base.proofs.runs.reading.scan.Goals as goal
 use Rattle.flr_base.proofs.runs.reading.scan.Goals.{in-Go, in-Close+in_ok-push-in-Close}

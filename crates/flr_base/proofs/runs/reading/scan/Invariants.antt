@@ -1,4 +1,4 @@
-use Rattle.std.proofs.Common.{◌≡◌, ℕ, List, [], take, Option, Some, None}
+use Rattle.std.proofs.Common.{◌≡◌, [], take, Some, None}
 use Rattle.flr_base.proofs.Machine.{run}
 use Rattle.flr_base.specs.declared.runs.scan.Phase.TheVariants.{Start}
 use Rattle.flr_base.specs.Scan.{step, last_after}

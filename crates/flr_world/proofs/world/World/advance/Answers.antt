@@ -1,7 +1,7 @@
-use Rattle.std.proofs.Common.{◌≡◌, ℕ, ◌+◌, ◌<◌, ◌≤◌, List, [], ◌∷◌, ◌++◌, Some, length, refl, sym, ap, subst, ◌∙◌, arith}
+use Rattle.std.proofs.Common.{◌≡◌, ℕ, ◌+◌, ◌<◌, ◌≤◌, [], ◌∷◌, ◌++◌, length, refl, sym, ap, ◌∙◌, arith}
 use Rattle.std.specs.Prelude.{slice_get}
 use Rattle.script_text.specs.Scripts.{commands_of}
-use Rattle.flr_world.specs.States.{State, Stepped, next, noted, IsRun}
+use Rattle.flr_world.specs.States.{noted}
 use Rattle.flr_world.proofs.Conditions.{shown, short, step_fits, few_done}
 use Rattle.flr_world.proofs.Runs.{makes, run_more}
 use Rattle.flr_world.proofs.world.World.advance.Goals as goal
