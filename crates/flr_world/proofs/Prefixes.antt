@@ -2,7 +2,7 @@
 use Rattle.std.proofs.Common.{◌≡◌, ℕ, zero, suc, ◌+◌, ◌-◌, ◌<◌, ◌≤◌, List, [], ◌∷◌, ◌++◌, length, take, refl, sym, ap, subst, ◌∙◌, arith}
 use Rattle.std.specs.Prelude.{Option, Some, None, slice_get}
 use Rattle.std.specs.Option.{option_and_then}
-use Rattle.std.proofs.lemmas.List.{length_push}
+use Rattle.std.proofs.lemmas.List.{length_push, take-append-le, take_all}
 use Rattle.script_text.specs.Scripts.{ScriptView}
 use Rattle.flr_world.specs.States.{State, Next, Stepped, Finished, Unknown, next, after, state_of, start}
 use Rattle.flr_world.specs.Histories.{IsStepOf}
@@ -37,24 +37,15 @@ after_stops [] rest c s t e n =
     ap (λ (o : Option State). option_and_then (λ mid. after mid rest) o) (ap (λ (x : State). state_of (next x c)) same ∙ n)
 after_stops (d ∷ cs) rest c s t e n = stops_by cs rest c t (next s d) (λ mid m. after_stops cs rest c mid t m n) e
 
-take_less : {A : Type 0} (xs ys : List A) (n : ℕ) → n ≤ length xs → take n (xs ++ ys) ≡ take n xs
-take_less xs ys zero le = refl
-take_less [] ys (suc n) le = absurd (omega arith)
-take_less {A = A} (x ∷ xs) ys (suc n) le = ap (λ (zs : List A). x ∷ zs) (take_less xs ys n (omega arith))
-
-take_whole : {A : Type 0} (xs : List A) → take (length xs) xs ≡ xs
-take_whole [] = refl
-take_whole {A = A} (x ∷ xs) = ap (λ (zs : List A). x ∷ zs) (take_whole xs)
-
 -- what was so after a prefix stays so
 pub state_more : (script : ScriptView) (schedule : List ℕ) (c place : ℕ) (s : State) → IsStateAt script schedule place s → IsStateAt script (schedule ++ c ∷ []) place s
 state_more script schedule c place s h = record {
   within = let w = h.within in omega (arith, length_push schedule c);
-  is = ap (λ (xs : List ℕ). after (start script) xs) (take_less schedule (c ∷ []) place h.within) ∙ h.is;
+  is = ap (λ (xs : List ℕ). after (start script) xs) (take-append-le place schedule (c ∷ []) h.within) ∙ h.is;
 }
 
 pub state_now : (script : ScriptView) (schedule : List ℕ) (s : State) → after (start script) schedule ≡ Some s → IsStateAt script schedule (length schedule) s
-state_now script schedule s e = record { within = omega arith; is = ap (λ (xs : List ℕ). after (start script) xs) (take_whole schedule) ∙ e }
+state_now script schedule s e = record { within = omega arith; is = ap (λ (xs : List ℕ). after (start script) xs) (take_all (length schedule) schedule (omega arith)) ∙ e }
 
 pub step_more : (script : ScriptView) (schedule : List ℕ) (c place : ℕ) (s t : State) → IsStepAt script schedule place s t → IsStepAt script (schedule ++ c ∷ []) place s t
 step_more script schedule c place s t h = record { counted = h.counted; from = state_more script schedule c (place - 1) s h.from; to = state_more script schedule c place t h.to }
