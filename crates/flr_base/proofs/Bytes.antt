@@ -75,6 +75,11 @@ piece_at bytes offset len i lt =
     let all : List ℕ = padded bytes (offset + len) in
     get_or-take len (drop offset all) i 0 lt ∙ get_or-drop offset all i 0 ∙ padded_at bytes (offset + len) (offset + i)
 
+-- as many bytes, which stand so in the list, are the piece
+pub is_piece : (xs bytes : List ℕ) (offset len : ℕ) → length xs ≡ len → ((i : ℕ) → i < len → get_or xs i 0 ≡ get_or bytes (offset + i) 0) → xs ≡ piece bytes offset len
+is_piece xs bytes offset len long each =
+    ext_get_or 0 xs (piece bytes offset len) (long ∙ sym (length-piece bytes offset len)) (λ i lt. let small : i < len = omega arith in each i small ∙ sym (piece_at bytes offset len i small))
+
 -- pieces of lists with the same bytes there are the same
 pub same_pieces : (a b : List ℕ) (offset len : ℕ) → ((x : ℕ) → offset ≤ x → x < offset + len → get_or a x 0 ≡ get_or b x 0) → piece a offset len ≡ piece b offset len
 same_pieces a b offset len h =

@@ -6,7 +6,9 @@ use Rattle.std.proofs.lemmas.Bool.{cases_lt}
 use Rattle.std.proofs.lemmas.Bool.Decides.{nat_tests}
 use Rattle.std.proofs.lemmas.List.{ext_get_or, get_or_past, get_or-take, get_or-drop, get_or-replicate, length-replicate, length-take, length-drop, length-take-le}
 use Rattle.std.proofs.lemmas.List.FromFn.{length-map-range_with_len, get_or-map-range_with_len}
-use Rattle.object_pages.specs.Bytes.{piece, overlaid, overlay}
+use Rattle.flr_base.specs.Bytes.{overlay}
+use Rattle.flr_base.proofs.Bytes.{overlay_in, overlay_out}
+use Rattle.object_pages.specs.Bytes.{overlaid}
 
 -- a list made by a function of the index, from its bytes
 pub made_by : (f : ℕ → ℕ) (xs : List ℕ) (a n : ℕ) → length xs ≡ n → ((k : ℕ) → k < n → get_or xs k 0 ≡ f (a + k)) → xs ≡ map f (range_with_len a n)
@@ -42,35 +44,14 @@ by_place P offset new x before inside behind =
 pub overlaid_same : (f g : ℕ → ℕ) (offset : ℕ) (new : List ℕ) (x : ℕ) → f x ≡ g x → overlaid f offset new x ≡ overlaid g offset new x
 overlaid_same f g offset new x same = ap (λ old. cond (nat_le offset x && nat_lt x (offset + length new)) (get_or new (x - offset) 0) old) same
 
--- a piece has the length that is asked
-pub length-piece : (bytes : List ℕ) (offset n : ℕ) → length (piece bytes offset n) ≡ n
-unfolding piece
-length-piece bytes offset n = length-map-range_with_len (λ x. get_or bytes x 0) offset n
-
--- a byte of a piece
-pub byte-piece : (bytes : List ℕ) (offset n k : ℕ) → k < n → get_or (piece bytes offset n) k 0 ≡ get_or bytes (offset + k) 0
-unfolding piece
-byte-piece bytes offset n k below = get_or-map-range_with_len (λ x. get_or bytes x 0) offset n k (offset + k) 0 below refl
-
--- an overlay ends at the later of the two ends
-pub length-overlay : (old : List ℕ) (offset : ℕ) (new : List ℕ) → length (overlay old offset new) ≡ max (length old) (offset + length new)
-unfolding overlay
-length-overlay old offset new = length-map-range_with_len (overlaid (λ x. get_or old x 0) offset new) 0 (max (length old) (offset + length new))
-
 -- a byte of an overlay, also past its end
 pub byte-overlay : (old : List ℕ) (offset : ℕ) (new : List ℕ) (x : ℕ) → get_or (overlay old offset new) x 0 ≡ overlaid (λ y. get_or old y 0) offset new x
-unfolding overlay
 byte-overlay old offset new x =
-    let f : ℕ → ℕ = overlaid (λ y. get_or old y 0) offset new in
-    let n : ℕ = max (length old) (offset + length new) in
-    elim (cases_lt x n) [
-      | inl below ↦ get_or-map-range_with_len f 0 n x x 0 below (omega arith)
-      | inr past ↦
-          let long : length (map f (range_with_len 0 n)) ≤ x = omega (arith, length-map-range_with_len f 0 n) in
-          let behind : offset + length new ≤ x = omega arith in
-          let over : length old ≤ x = omega arith in
-          get_or_past (map f (range_with_len 0 n)) x 0 long ∙ sym (overlaid_behind (λ y. get_or old y 0) offset new x behind ∙ get_or_past old x 0 over)
-    ]
+    let f : ℕ → ℕ = λ y. get_or old y 0 in
+    by_place (get_or (overlay old offset new) x 0 ≡ overlaid f offset new x) offset new x
+    (λ low. overlay_out old offset new x (λ from high. omega arith) ∙ sym (overlaid_before f offset new x low))
+    (λ from high. overlay_in old offset new x from high ∙ sym (overlaid_inside f offset new x from high))
+    (λ past. overlay_out old offset new x (λ from high. omega arith) ∙ sym (overlaid_behind f offset new x past))
 
 -- a byte of a list that is cut: before the cut it stays, behind it there are zeros
 pub byte-take_before : (bytes : List ℕ) (n x : ℕ) → x < n → get_or (take n bytes) x 0 ≡ get_or bytes x 0

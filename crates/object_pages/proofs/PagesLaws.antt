@@ -6,8 +6,10 @@ use Rattle.std.specs.Ordering.{nat_cmp}
 use Rattle.std.proofs.lemmas.Bool.{cases_lt, cases_eq, lt-ltb, le-ltb}
 use Rattle.std.proofs.lemmas.List.{get_or_past, get_or_append_left, get_or-append_right, take_all, length-append, get_or-take, get_or-drop, length-take, length-take-le}
 use Rattle.std.proofs.lemmas.List.FromFn.{length-map-range_with_len, get_or-map-range_with_len}
-use Rattle.object_pages.proofs.BytesLaws.{made_by, overlaid_inside, overlaid_before, overlaid_behind, by_place, overlaid_same, overlaid_more, length-overlay, byte-overlay}
-use Rattle.object_pages.specs.Bytes.{piece, overlaid, overlay}
+use Rattle.object_pages.proofs.BytesLaws.{made_by, overlaid_inside, overlaid_before, overlaid_behind, by_place, overlaid_same, overlaid_more, byte-overlay}
+use Rattle.flr_base.specs.Bytes.{overlay, piece}
+use Rattle.flr_base.proofs.Bytes.{length-overlay, is_piece}
+use Rattle.object_pages.specs.Bytes.{overlaid}
 use Rattle.object_pages.specs.Pages.{Pages, page_byte, byte_at, bytes_of, AreFull, AreKept, HasRoom}
 
 -- a few bytes on, in the same page
@@ -88,9 +90,8 @@ length-bytes_of pages len = length-map-range_with_len (byte_at pages) 0 len
 
 -- the bytes that a read gives
 pub piece-bytes_of : (pages : Pages) (len offset n : ℕ) (front back : List ℕ) → AreKept pages len → length front + length back ≡ n → length front ≡ min (len - offset) n → ((k : ℕ) → k < length front → get_or front k 0 ≡ byte_at pages (offset + k)) → ((k : ℕ) → get_or back k 0 ≡ 0) → front ++ back ≡ piece (bytes_of pages len) offset n
-unfolding piece
 piece-bytes_of pages len offset n front back kept long short each zeros =
-    made_by (λ x. get_or (bytes_of pages len) x 0) (front ++ back) offset n (length-append front back ∙ long)
+    is_piece (front ++ back) (bytes_of pages len) offset n (length-append front back ∙ long)
     (λ k below. elim (cases_lt k (length front)) [
       | inl in_front ↦ get_or_append_left front back 0 k in_front ∙ each k in_front ∙ sym (byte-bytes_of pages len (offset + k) kept)
       | inr in_back ↦

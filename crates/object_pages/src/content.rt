@@ -1,5 +1,5 @@
 ghost use Rattle.std.specs.Prelude.{◌≡◌, ◌+◌, ◌^◌, ◌<◌, [], length, take, OnOk, OnErr};
-ghost use Rattle.object_pages.specs.Bytes.{piece, overlay};
+ghost use Rattle.flr_base.specs.Bytes.{piece, overlay};
 
 use crate::pages::{Pages, drop_pages, make_pages, read_bytes, wipe_page, write_bytes};
 use flr_base::NoMemory;

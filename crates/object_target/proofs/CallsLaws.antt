@@ -4,7 +4,7 @@ use Rattle.std.specs.Prelude.{is_some, max, take, unwrap_or, slice_get, length}
 use Rattle.std.proofs.lemmas.Bool.{cases_eq}
 use Rattle.std.proofs.lemmas.List.{take_all, length_push, get_or_push, get_or_append_left}
 use Rattle.std.proofs.lemmas.Option.{slice_get-get_or, slice_get_within, get_or_from_slice_get}
-use Rattle.object_pages.specs.Bytes.{overlay}
+use Rattle.flr_base.specs.Bytes.{overlay}
 use Rattle.object_target.specs.declared.call.CallAnswer.TheVariants as answer
 use Rattle.object_target.specs.declared.fail.FailKind.{FailKind}
 use Rattle.object_target.specs.declared.fail.FailKind.TheVariants.{Refused, Lost}

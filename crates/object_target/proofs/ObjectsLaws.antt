@@ -12,8 +12,8 @@ use Rattle.std.specs.declared.cmp.Ordering.TheVariants.{Less, Equal, Greater}
 use Rattle.std.proofs.lemmas.Bool.{cases_lt, cases_eq, false≢true}
 use Rattle.std.proofs.lemmas.Map.Steps.{set_value_same}
 use Rattle.std.specs.Prelude.{take}
-use Rattle.object_pages.specs.Bytes.{piece}
-use Rattle.object_pages.proofs.BytesLaws.{made_by}
+use Rattle.flr_base.specs.Bytes.{piece}
+use Rattle.flr_base.proofs.Bytes.{is_piece}
 use Rattle.object_target.specs.declared.objects.Object.{Object}
 use Rattle.object_target.specs.Objects.{kept_object, object_in, bytes_in, version_in, put, with_cut}
 
@@ -104,8 +104,7 @@ set_value-unchanged es objects number was w same found unchanged =
 
 -- zeros are a piece of an object without bytes
 pub zeros-piece : (zeros : List ℕ) (offset n : ℕ) → length zeros ≡ n → ((k : ℕ) → get_or zeros k 0 ≡ 0) → zeros ≡ piece [] offset n
-unfolding piece
-zeros-piece zeros offset n long each = made_by (λ x. get_or [] x 0) zeros offset n long (λ k below. each k)
+zeros-piece zeros offset n long each = is_piece zeros [] offset n long (λ k below. each k)
 
 -- a cut of an object that is kept
 pub with_cut_kept : (objects : List (ℕ × Object)) (number offset : ℕ) → is_some (kept_object objects number) ≡ true → with_cut objects number offset ≡ put objects number (record { content = take offset (bytes_in objects number); version = version_in objects number })

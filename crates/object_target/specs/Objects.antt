@@ -3,7 +3,7 @@ use Rattle.std.specs.Prelude.{ℕ, List, [], take, max, Option, unwrap_or, is_so
 use Rattle.std.specs.BTreeMap.{insert_entry, is_at}
 use Rattle.std.specs.Map.{lookup}
 use Rattle.std.specs.Ordering.{nat_cmp}
-use Rattle.object_pages.specs.Bytes.{overlay}
+use Rattle.flr_base.specs.Bytes.{overlay}
 use Rattle.object_target.specs.declared.objects.Object.{Object}
 
 -- an object, if it is kept

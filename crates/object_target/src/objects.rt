@@ -1,6 +1,6 @@
 ghost use Rattle.std.specs.Prelude.{◌≡◌, ◌≢◌, ℕ, ◌+◌, ◌^◌, ◌<◌, [], length, OnOk, OnErr, is_some};
 ghost use Rattle.std.specs.Option.{option_copied, option_map};
-ghost use Rattle.object_pages.specs.Bytes.{piece};
+ghost use Rattle.flr_base.specs.Bytes.{piece};
 ghost use Rattle.object_target.specs.Objects.{kept_object, bytes_in, version_in, put, with_bytes, with_fence, with_reset, with_cut};
 
 use flr_base::NoMemory;

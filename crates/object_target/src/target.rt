@@ -1,6 +1,6 @@
 ghost use Rattle.std.specs.Prelude.{◌≡◌, ◌≢◌, ℕ, ◌+◌, ◌-◌, ◌^◌, ◌<◌, ◌≤◌, [], ◌∷◌, ◌++◌, true, false, length, vec_len, vec_capacity, IfOk, OnOk, OnErr, is_some};
 ghost use Rattle.std.specs.Option.{option_copied, option_map};
-ghost use Rattle.object_pages.specs.Bytes.{piece};
+ghost use Rattle.flr_base.specs.Bytes.{piece};
 ghost use Rattle.object_target.specs.TargetState.{new_target, next_call, kept_at, bytes_at, version_at};
 ghost use Rattle.object_target.specs.Calls.{answer_by, has_effect, read_answer, after_read, write_answer, after_write, fence_answer, after_fence, reset_answer, after_reset, punch_answer, after_punch, after_rot};
 ghost use Rattle.object_target.specs.Results.{call_result, IsAnswer, IsAfter, IsRotAnswer, IsAfterRot};

@@ -1,6 +1,6 @@
 use Rattle.std.proofs.Common.{◌≡◌, ℕ, ◌+◌, ◌-◌, length, get_or, ap, ◌∙◌, arith}
 use Rattle.std.specs.Prelude.{min}
-use Rattle.object_pages.specs.Bytes.{piece}
+use Rattle.flr_base.specs.Bytes.{piece}
 use Rattle.object_pages.proofs.BytesLaws.{get_or-zeros}
 use Rattle.object_pages.proofs.PagesLaws.{piece-bytes_of}
 use Rattle.object_pages.proofs.content.Content.read.Goals as goal

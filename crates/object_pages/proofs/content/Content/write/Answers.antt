@@ -1,5 +1,6 @@
 use Rattle.std.proofs.Common.{◌≡◌, ℕ, ap, ◌∙◌}
-use Rattle.object_pages.specs.Bytes.{overlaid, overlay}
+use Rattle.flr_base.specs.Bytes.{overlay}
+use Rattle.object_pages.specs.Bytes.{overlaid}
 use Rattle.object_pages.specs.Pages.{byte_at, bytes_of}
 use Rattle.object_pages.proofs.BytesLaws.{overlaid_same}
 use Rattle.object_pages.proofs.PagesLaws.{overlay-bytes_of}

@@ -1,7 +1,7 @@
 use Rattle.std.proofs.Common.{◌≡◌, ◌∙◌, ℕ, [], length, get_or, ap}
 use Rattle.std.specs.Prelude.{Option, unwrap_or}
 use Rattle.object_target.specs.declared.objects.Object.{Object}
-use Rattle.object_pages.specs.Bytes.{piece}
+use Rattle.flr_base.specs.Bytes.{piece}
 use Rattle.object_pages.proofs.BytesLaws.{get_or-zeros}
 use Rattle.object_target.specs.Objects.{bytes_in}
 use Rattle.object_target.proofs.ObjectsLaws.{zeros-piece}

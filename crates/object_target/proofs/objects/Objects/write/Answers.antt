@@ -1,6 +1,6 @@
 use Rattle.std.proofs.Common.{◌≡◌, ◌∙◌, ap}
 use Rattle.std.proofs.lemmas.Result.{on_ok_weaker, on_err_weaker}
-use Rattle.object_pages.specs.Bytes.{overlay}
+use Rattle.flr_base.specs.Bytes.{overlay}
 use Rattle.object_target.specs.declared.objects.Object.{Object}
 use Rattle.object_target.proofs.ObjectsLaws.{set_value-changed, set_value-unchanged}
 use Rattle.object_target.proofs.objects.Objects.write.Goals as goal
