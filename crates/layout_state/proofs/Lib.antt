@@ -1,0 +1,15 @@
+pub mod MirrorLaws
+pub mod ChoiceLaws
+pub mod SelectLaws
+pub mod BreakLaws
+pub mod MarkLaws
+pub mod ObjectLaws
+pub mod NameLaws
+pub mod KeepLaws
+pub mod ValidLaws
+pub mod ReadyLaws
+pub mod AppendLaws
+pub mod LeaveLaws
+pub mod TakenLaws
+pub mod MergeLaws
+pub mod StayLaws

@@ -1,0 +1,42 @@
+//! Choices from a file's layout and changes of it: which mirror a write goes to and which components
+//! a resync copies to; what a write, a copy, and the commands that add, take away and mark mirrors do
+//! to a layout, and when each is refused.
+#![tactic(auto)]
+
+mod add;
+mod choices;
+mod error;
+mod intents;
+mod leases;
+mod maker;
+mod mark_laws;
+mod marks;
+mod merging;
+mod mirror_laws;
+mod objects;
+mod remove;
+mod select;
+
+pub use add::add_mirrors;
+pub use choices::{primary, ready};
+pub use error::StateError;
+pub use intents::intent;
+pub use leases::break_lease;
+pub use maker::ObjectMaker;
+pub use mark_laws::{
+    components_stay, generation_grows, intent_readies, marks_keep_valid, objects_are_new,
+    stale_stays,
+};
+pub use marks::{done, set_flags};
+pub use merging::merge;
+pub use mirror_laws::{generations_grow, mirrors_stay_as_fresh, what_mirrors_keep};
+pub use objects::begin;
+pub use remove::remove_mirror;
+pub use select::selected;
+
+#[cfg(test)]
+mod choice_tests;
+#[cfg(test)]
+mod mark_tests;
+#[cfg(test)]
+mod mirror_tests;
