@@ -1,0 +1,5 @@
+pub mod Appending
+pub mod Texts
+pub mod Viable
+pub mod LineWords
+pub mod Spelling

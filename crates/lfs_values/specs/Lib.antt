@@ -1,0 +1,7 @@
+pub mod Answers
+pub mod Causes
+pub mod DistinctItems
+pub mod FlagLists
+pub mod Keys
+pub mod MirrorIds
+pub mod Values

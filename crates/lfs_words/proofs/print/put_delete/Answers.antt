@@ -1,0 +1,12 @@
+use Rattle.std.proofs.Common.{◌++◌, ◌∷◌, []}
+use Rattle.std.specs.Prelude.{codes}
+use Rattle.std.specs.Fmt.{decimal}
+use Rattle.lfs_words.proofs.Spaced.{words_behind, put_words}
+use Rattle.lfs_words.proofs.print.put_delete.Goals as goal
+
+pub returns : goal.returns
+returns c =
+    let start = codes "mirror" ∷ codes "delete" ∷ [] in
+    let id = codes "--mirror-id" ∷ decimal c.args.mirror ∷ [] in
+    put_words c.put_file.result _ _ _ (start ++ id) (c.args.name.now ∷ [])
+    (words_behind _ _ _ start id c.in_ok-put_words.ensures c.in_ok-put_option.ensures) c.put_file.ensures

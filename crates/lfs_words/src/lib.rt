@@ -1,0 +1,22 @@
+//! The words of the `lfs` commands that make, extend, split, delete, resync and verify mirrors, after
+//! the lfs manual pages. Which commands and options there are, and how they are spelt, is this
+//! project's own.
+#![tactic(auto)]
+
+mod asked;
+mod check;
+mod command;
+mod options;
+mod parts;
+mod print;
+mod read;
+mod stands;
+mod step;
+mod takes;
+
+pub use command::{LfsCommand, SplitTo};
+pub use print::print_lfs;
+pub use read::read_lfs;
+
+#[cfg(test)]
+mod tests;

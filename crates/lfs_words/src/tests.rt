@@ -1,0 +1,250 @@
+ghost use Rattle.std.specs.Prelude.{◌<◌, ◌≤◌};
+
+use super::*;
+use flr_base::NoMemory;
+use lfs_values::{Cause, put_cause};
+use std::alloc::Global;
+use std::test::*;
+use text_words::{cut, line_words, parts, put_decimal};
+
+/// The printed form of the command that the line's words are, or the text of the cause, for files of at
+/// most so many mirrors.
+fn again(alloc: Global, line: &[u8], most: u8) -> Result<Vec<u8>, NoMemory>
+    requires { (0 < most) × (most ≤ 32) }
+{
+    let words = line_words(alloc, line)?;
+    let mut out = Vec::new(alloc);
+    match read_lfs(alloc, &words, most) {
+        Ok(command) => {
+            let text = print_lfs(alloc, &command)?;
+            out.extend_from_slice(text.as_slice())?;
+        }
+        Err(cause) => put_cause(&mut out, cause)?,
+    }
+    Ok(out)
+}
+
+/// What the first line of the table is read as that isn't read as stands behind its bar, and nothing
+/// where each is. A printed form is read again.
+fn first_wrong(alloc: Global, table: &[u8]) -> Result<Vec<u8>, NoMemory> {
+    for row in &parts(alloc, table, b'\n')? {
+        if let Some((line, expected)) = cut(*row, b'|') {
+            let text = again(alloc, line, 16)?;
+            if text.as_slice() != expected {
+                return Ok(text);
+            }
+            if text.starts_with(b"lfs ") && again(alloc, &text, 16)?.as_slice() != expected {
+                return again(alloc, &text, 16);
+            }
+        }
+    }
+    Ok(Vec::new(alloc))
+}
+
+const FORMS: &[u8] = b"lfs|missing word
+lfs x|unknown word 2
+lfs getstripe|missing word
+lfs getstripe /a|lfs getstripe /a
+lfs getstripe /a /b|extra word 4
+lfs getstripe a|bad name 3
+lfs getstripe -x /a|unknown word 3
+lfs getstripe /|bad name 3
+lfs getstripe /a+b|bad name 3
+lfs mirror|missing word
+lfs mirror x /a|unknown word 3
+lfs mirror verify /a|lfs mirror verify /a
+lfs mirror verify --only 1 /a|unknown word 4
+lfs mirror verify /a x|extra word 5
+lfx getstripe /a|unknown word 1";
+
+const SETSTRIPE: &[u8] = b"lfs setstripe /a|lfs setstripe -E -1 -S 1048576 -c 1 /a
+lfs setstripe -S 64K /a|lfs setstripe -E -1 -S 65536 -c 1 /a
+lfs setstripe -S 64k -c 2 /a|lfs setstripe -E -1 -S 65536 -c 2 /a
+lfs setstripe -c 2 -S 1M /a|lfs setstripe -E -1 -S 1048576 -c 2 /a
+lfs setstripe -c -1 /a|lfs setstripe -E -1 -S 1048576 -c -1 /a
+lfs setstripe -c -2 /a|bad number 4
+lfs setstripe -c 0 -S 0 /a|lfs setstripe -E -1 -S 1048576 -c 1 /a
+lfs setstripe -c 65535 /a|lfs setstripe -E -1 -S 1048576 -c 65535 /a
+lfs setstripe -c 65536 /a|bad number 4
+lfs setstripe -S 1G /a|lfs setstripe -E -1 -S 1073741824 -c 1 /a
+lfs setstripe -S 1073741825 /a|bad number 4
+lfs setstripe -S 2G /a|bad number 4
+lfs setstripe -S 65537 /a|unaligned 65537
+lfs setstripe -S 65537 -E 1M /a|conflict 5
+lfs setstripe -S 64K -S 64K /a|repeated 5
+lfs setstripe -c 1 -c 1 /a|repeated 5
+lfs setstripe -E 1M -E 2M -E -1 /a|lfs setstripe -E 1048576 -S 1048576 -c 1 -E 2097152 -S 1048576 -c 1 -E -1 -S 1048576 -c 1 /a
+lfs setstripe -E 1M -E 2M /a|gap 2097152
+lfs setstripe -E 2M -E 1M -E -1 /a|gap 1048576
+lfs setstripe -E 1M -E 1M -E EOF /a|gap 1048576
+lfs setstripe -E 0 -E -1 /a|gap 0
+lfs setstripe -E -1 -E -1 /a|gap EOF
+lfs setstripe -E eof -S 128k /a|lfs setstripe -E -1 -S 131072 -c 1 /a
+lfs setstripe -E EOF -c 3 /a|lfs setstripe -E -1 -S 1048576 -c 3 /a
+lfs setstripe -E 65537 -S 65537 -E -1 /a|unaligned 65537
+lfs setstripe -E 100000 -E -1 /a|unaligned 100000
+lfs setstripe -E 18446744073709551615 -E -1 /a|bad number 4
+lfs setstripe -E 18446744073709551614 -E -1 /a|unaligned 18446744073709551614
+lfs setstripe -E 16777216T -E -1 /a|bad number 4
+lfs setstripe -E 01 -E -1 /a|bad number 4
+lfs setstripe -E|missing word
+lfs setstripe -E -S 64K /a|bad number 4
+lfs setstripe -N /a|unknown word 3
+lfs setstripe -x /a|unknown word 3";
+
+const FLAGS: &[u8] =
+    b"lfs setstripe --comp-set -I 65537 --comp-flags=prefer /a|lfs setstripe --comp-set -I 65537 --comp-flags=prefer /a
+lfs setstripe --comp-flags=prefer -I 65537 --comp-set /a|lfs setstripe --comp-set -I 65537 --comp-flags=prefer /a
+lfs setstripe --comp-set --comp-flags=^prefer,stale,nosync -I 1 /a|lfs setstripe --comp-set -I 1 --comp-flags=^prefer,nosync,stale /a
+lfs setstripe --comp-set -I 65537 --comp-flags=nosync,^offline,prefer,stale /a|lfs setstripe --comp-set -I 65537 --comp-flags=prefer,^offline,nosync,stale /a
+lfs setstripe --comp-set -I 65537 --comp-flags=fresh /a|unknown word 6
+lfs setstripe --comp-set -I 65537 --comp-flags= /a|unknown word 6
+lfs setstripe --comp-set -I 65537 --comp-flags=prefer,^prefer /a|repeated 6
+lfs setstripe --comp-set -I 65537 --comp-flags=prefer,prefer /a|repeated 6
+lfs setstripe --comp-set -I 65537 --comp-flags=^stale /a|unknown word 6
+lfs setstripe --comp-set -I 65537 --comp-flags=init /a|unknown word 6
+lfs setstripe --comp-set -I 0 --comp-flags=prefer /a|bad number 5
+lfs setstripe --comp-set -I 4294967296 --comp-flags=prefer /a|bad number 5
+lfs setstripe --comp-set -I 65537 /a|unknown word 6
+lfs setstripe --comp-set --comp-flags=prefer /a|unknown word 5
+lfs setstripe -I 65537 --comp-flags=prefer /a|unknown word 6
+lfs setstripe --comp-set --comp-set -I 1 --comp-flags=stale /a|repeated 4
+lfs setstripe --comp-set -I 1 -I 2 --comp-flags=stale /a|repeated 6
+lfs setstripe --comp-set -S 64K /a|unknown word 4
+lfs setstripe -S 64K --comp-set /a|unknown word 5";
+
+const CREATE: &[u8] = b"lfs mirror create /a|no mirror
+lfs mirror create -N /a|lfs mirror create -N -E -1 -S 1048576 -c 1 /a
+lfs mirror create -N2 /a|lfs mirror create -N -E -1 -S 1048576 -c 1 -N -E -1 -S 1048576 -c 1 /a
+lfs mirror create -N16 /a|lfs mirror create -N -E -1 -S 1048576 -c 1 -N -E -1 -S 1048576 -c 1 -N -E -1 -S 1048576 -c 1 -N -E -1 -S 1048576 -c 1 -N -E -1 -S 1048576 -c 1 -N -E -1 -S 1048576 -c 1 -N -E -1 -S 1048576 -c 1 -N -E -1 -S 1048576 -c 1 -N -E -1 -S 1048576 -c 1 -N -E -1 -S 1048576 -c 1 -N -E -1 -S 1048576 -c 1 -N -E -1 -S 1048576 -c 1 -N -E -1 -S 1048576 -c 1 -N -E -1 -S 1048576 -c 1 -N -E -1 -S 1048576 -c 1 -N -E -1 -S 1048576 -c 1 /a
+lfs mirror create -N17 /a|bad number 4
+lfs mirror create -N0 /a|bad number 4
+lfs mirror create -N01 /a|bad number 4
+lfs mirror create -Nx /a|bad number 4
+lfs mirror create -N 2 /a|bad name 5
+lfs mirror create -N10 -N7 /a|too many mirrors
+lfs mirror create -N --flags=prefer /a|lfs mirror create -N --flags=prefer -E -1 -S 1048576 -c 1 /a
+lfs mirror create -N2 --flags=prefer -S 64K -c 2 -N -E 1M -E -1 -c 4 /a|lfs mirror create -N --flags=prefer -E -1 -S 65536 -c 2 -N --flags=prefer -E -1 -S 65536 -c 2 -N -E 1048576 -S 1048576 -c 1 -E -1 -S 1048576 -c 4 /a
+lfs mirror create -N -S 64K --flags=prefer /a|unknown word 7
+lfs mirror create -N --flags=prefer --flags=prefer /a|repeated 6
+lfs mirror create -N --flags=prefer -c 2 --flags=prefer /a|repeated 8
+lfs mirror create --flags=prefer -N /a|unknown word 4
+lfs mirror create -N --flags=stale /a|unknown word 5
+lfs mirror create -S 64K /a|unknown word 4
+lfs mirror create -N -S 64K -E 1M -E -1 /a|conflict 7
+lfs mirror create -N -E 1M -N -E -1 /a|gap 1048576
+lfs mirror create -N -f /b /a|unknown word 5";
+
+const EXTEND: &[u8] = b"lfs mirror extend /a|no mirror
+lfs mirror extend -N /a|lfs mirror extend -N -E -1 -S 1048576 -c 1 /a
+lfs mirror extend -N3 -c 2 /a|lfs mirror extend -N -E -1 -S 1048576 -c 2 -N -E -1 -S 1048576 -c 2 -N -E -1 -S 1048576 -c 2 /a
+lfs mirror extend -N -f /b /a|lfs mirror extend -N -f /b /a
+lfs mirror extend -f /b -N /a|lfs mirror extend -N -f /b /a
+lfs mirror extend -f /b /a|no mirror
+lfs mirror extend -f /a /a|same file
+lfs mirror extend -N -f /a /a|same file
+lfs mirror extend -N1 -f /b /a|conflict 5
+lfs mirror extend -N2 -f /b /a|conflict 5
+lfs mirror extend -N -f /b -N /a|conflict 7
+lfs mirror extend -N -f /b -c 2 /a|conflict 7
+lfs mirror extend -N -c 2 -f /b /a|conflict 7
+lfs mirror extend -N --flags=prefer -f /b /a|conflict 6
+lfs mirror extend -f /b --flags=prefer -N /a|conflict 6
+lfs mirror extend -N -f /b -f /c /a|repeated 7
+lfs mirror extend -N -f b /a|bad name 6
+lfs mirror extend -N -f -x /a|unknown word 6";
+
+const SPLIT_AND_DELETE: &[u8] =
+    b"lfs mirror split --mirror-id 1 /a|lfs mirror split --mirror-id 1 /a
+lfs mirror split --mirror-id=1 /a|lfs mirror split --mirror-id 1 /a
+lfs mirror split --mirror-id=1 -d /a|lfs mirror split --mirror-id 1 -d /a
+lfs mirror split -d --mirror-id 65535 /a|lfs mirror split --mirror-id 65535 -d /a
+lfs mirror split --mirror-id 65536 /a|bad number 5
+lfs mirror split --mirror-id 0 /a|bad number 5
+lfs mirror split --mirror-id= /a|bad number 4
+lfs mirror split --mirror-id 1 --mirror-id=2 /a|repeated 6
+lfs mirror split --mirror-id 1 -f /b /a|lfs mirror split --mirror-id 1 -f /b /a
+lfs mirror split -f /b --mirror-id 1 /a|lfs mirror split --mirror-id 1 -f /b /a
+lfs mirror split --mirror-id 1 -f /a /a|same file
+lfs mirror split --mirror-id 1 -d -f /b /a|conflict 7
+lfs mirror split --mirror-id 1 -f /b -d /a|conflict 8
+lfs mirror split --mirror-id 1 -d -d /a|repeated 7
+lfs mirror split -d /a|unknown word 5
+lfs mirror split /a|unknown word 4
+lfs mirror split --mirror-id -1 /a|unknown word 5
+lfs mirror delete --mirror-id 2 /a|lfs mirror delete --mirror-id 2 /a
+lfs mirror delete --mirror-id=2 /a|lfs mirror delete --mirror-id 2 /a
+lfs mirror delete /a|unknown word 4
+lfs mirror delete -d --mirror-id 2 /a|unknown word 4";
+
+const RESYNC: &[u8] = b"lfs mirror resync /a|lfs mirror resync /a
+lfs mirror resync --only 1 /a|lfs mirror resync --only 1 /a
+lfs mirror resync --only=3,1,2 /a|lfs mirror resync --only 3,1,2 /a
+lfs mirror resync --only 1,1 /a|repeated 5
+lfs mirror resync --only 1,,2 /a|bad number 5
+lfs mirror resync --only , /a|bad number 5
+lfs mirror resync --only 65536 /a|bad number 5
+lfs mirror resync --only 1,x,1 /a|bad number 5
+lfs mirror resync --only 1,1,x /a|repeated 5
+lfs mirror resync --only= /a|bad number 4
+lfs mirror resync --only 1 --only 2 /a|repeated 6
+lfs mirror resync --only /a|bad number 5
+lfs mirror resync --only -1 /a|unknown word 5
+lfs mirror resync|missing word
+lfs mirror resync /a /b|extra word 5";
+
+#[test]
+fn lines(rt: HostRuntime) -> Result<(), Fail> {
+    let alloc = rt.alloc();
+    assert_eq!(rt; first_wrong(alloc, FORMS)?.as_slice(), b"".as_slice());
+    assert_eq!(rt; first_wrong(alloc, SETSTRIPE)?.as_slice(), b"".as_slice());
+    assert_eq!(rt; first_wrong(alloc, FLAGS)?.as_slice(), b"".as_slice());
+    assert_eq!(rt; first_wrong(alloc, CREATE)?.as_slice(), b"".as_slice());
+    assert_eq!(rt; first_wrong(alloc, EXTEND)?.as_slice(), b"".as_slice());
+    assert_eq!(rt;
+        first_wrong(alloc, SPLIT_AND_DELETE)?.as_slice(),
+        b"".as_slice()
+    );
+    assert_eq!(rt; first_wrong(alloc, RESYNC)?.as_slice(), b"".as_slice());
+    Ok(())
+}
+
+#[test]
+fn other_limits(rt: HostRuntime) -> Result<(), Fail> {
+    let alloc = rt.alloc();
+    let text = again(alloc, b"lfs mirror extend -N33 /a", 32)?;
+    assert_eq!(rt; text.as_slice(), b"bad number 4".as_slice());
+    let text = again(alloc, b"lfs mirror create -N32 -N /a", 32)?;
+    assert_eq!(rt; text.as_slice(), b"too many mirrors".as_slice());
+    let text = again(alloc, b"lfs mirror create -N2 /a", 1)?;
+    assert_eq!(rt; text.as_slice(), b"bad number 4".as_slice());
+    let text = again(alloc, b"lfs mirror create -N -E 1K -N /a", 1)?;
+    assert_eq!(rt; text.as_slice(), b"too many mirrors".as_slice());
+    let text = again(alloc, b"lfs mirror create -N1 -E EOF -S 0 /a", 1)?;
+    assert_eq!(rt;
+        text.as_slice(),
+        b"lfs mirror create -N -E -1 -S 1048576 -c 1 /a".as_slice()
+    );
+    Ok(())
+}
+
+/// A command for one mirror of so many parts, each of 64 KiB but the last.
+fn many_parts(alloc: Global, parts: u32) -> Result<Vec<u8>, NoMemory> {
+    let mut line = Vec::from_slice(alloc, b"lfs setstripe")?;
+    for part in 1..parts {
+        line.extend_from_slice(b" -E ")?;
+        put_decimal(&mut line, u64::from(part) * 65536)?;
+    }
+    line.extend_from_slice(b" -E -1 /a")?;
+    Ok(line)
+}
+
+#[test]
+fn parts_of_a_mirror(rt: HostRuntime) -> Result<(), Fail> {
+    let alloc = rt.alloc();
+    let text = again(alloc, &many_parts(alloc, 65)?, 16)?;
+    assert_eq!(rt; text.as_slice(), b"too many parts".as_slice());
+    let text = again(alloc, &many_parts(alloc, 64)?, 16)?;
+    assert!(rt; text.starts_with(b"lfs setstripe -E 65536 -S 1048576 -c 1 "));
+    Ok(())
+}

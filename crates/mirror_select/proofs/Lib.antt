@@ -1,0 +1,12 @@
+pub mod Order
+pub mod Least
+pub mod Choices
+pub mod Sound
+pub mod Grouping
+pub mod Walk
+pub mod Writable
+pub mod TailWalk
+pub mod Whole
+pub mod ChoiceLaws
+pub mod TailLaws
+pub mod TestLayouts
