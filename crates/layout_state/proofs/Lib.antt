@@ -13,3 +13,4 @@ pub mod LeaveLaws
 pub mod TakenLaws
 pub mod MergeLaws
 pub mod StayLaws
+pub mod ChangeLaws

@@ -6,3 +6,4 @@ pub mod Making
 pub mod Marking
 pub mod Keeping
 pub mod Mirroring
+pub mod Changes

@@ -4,6 +4,7 @@
 #![tactic(auto)]
 
 mod add;
+mod change_laws;
 mod choices;
 mod error;
 mod intents;
@@ -18,6 +19,7 @@ mod remove;
 mod select;
 
 pub use add::add_mirrors;
+pub use change_laws::{changes_keep_valid, splits_and_merges_are_valid};
 pub use choices::{primary, ready};
 pub use error::StateError;
 pub use intents::intent;
