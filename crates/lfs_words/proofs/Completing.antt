@@ -169,7 +169,7 @@ no_bar : (b c : Bool) → c ≡ false → b && c ≡ false
 no_bar true c e = e
 no_bar false c e = refl
 
-plain_take : (most : ℕ) (a : Asked) (k : Key) (value : List ℕ) → begins_with_dash value ≡ false → take most a k value ≡ take_value most a k value
+pub plain_take : (most : ℕ) (a : Asked) (k : Key) (value : List ℕ) → begins_with_dash value ≡ false → take most a k value ≡ take_value most a k value
 plain_take most a k value e = ap (λ b. cond b (Err faults.UnknownWord) (take_value most a k value)) (no_bar (bars_dash k) (begins_with_dash value) e)
 
 -- ---- options that are missing may come

@@ -6,3 +6,7 @@ pub mod Items
 pub mod Lines
 pub mod Completing
 pub mod Answering
+pub mod Saying
+pub mod Printed
+pub mod PrintedParts
+pub mod PrintedSpecs

@@ -15,7 +15,7 @@ mod step;
 mod takes;
 
 pub use command::{LfsCommand, SplitTo};
-pub use print::print_lfs;
+pub use print::{print_lfs, printed_spells};
 pub use read::read_lfs;
 
 #[cfg(test)]

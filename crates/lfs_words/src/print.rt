@@ -1,9 +1,11 @@
 //! The one printed form of a command.
 
-ghost use Rattle.std.specs.Prelude.{◌≡◌, ◌++◌, ◌∷◌, [], OnOk, IfOk, codes};
+ghost use Rattle.std.specs.Prelude.{◌≡◌, ℕ, List, ◌++◌, ◌∷◌, [], OnOk, IfOk, codes};
 ghost use Rattle.std.specs.Fmt.{decimal};
 ghost use Rattle.std.specs.List.{flat_map};
-ghost use Rattle.lfs_words.specs.Printing.{spaced, words_after_lfs, text_of_command};
+ghost use Rattle.lfs_words.specs.Printing.{spaced, words_after_lfs, words_of_command, text_of_command};
+ghost use Rattle.lfs_words.specs.Grammar.{Spells};
+ghost use Rattle.lfs_words.specs.declared.command.LfsCommand.{LfsCommand};
 ghost use Rattle.lfs_words.specs.declared.command.LfsCommand.TheVariants as commands;
 
 use crate::command::{LfsCommand, SplitTo};
@@ -125,3 +127,9 @@ pub fn print_lfs(alloc: Global, command: &LfsCommand) -> Result<Octets, NoMemory
     put_command(&mut out, command)?;
     Ok(Octets::from_vec(out))
 }
+
+/// The law of the printed form: a command that some words spell is spelt by the words that it is
+/// printed as. So reading those words gives the command again.
+pub fn printed_spells()
+    ensures again { (most : ℕ) (words : List (List ℕ)) (command : LfsCommand) → Spells most words command → Spells most (words_of_command command) command }
+{}

@@ -1,0 +1,5 @@
+use Rattle.lfs_words.proofs.PrintedSpecs.{printed_again}
+use Rattle.lfs_words.proofs.print.printed_spells.Goals as goal
+
+pub returns : goal.returns
+returns c = record { again = printed_again }
