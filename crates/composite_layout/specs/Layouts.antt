@@ -2,7 +2,7 @@
 use Rattle.std.specs.Prelude.{◌≡◌, ℕ, ◌+◌, ◌*◌, ◌%◌, ◌^◌, ◌<◌, ◌≤◌, Bool, true, false, not, ◌&&◌, ◌||◌, nat_eq, nat_lt, List, [], ◌∷◌, ◌++◌, length, if◌then◌else◌}
 use Rattle.std.specs.List.{flat_map, list_any, list_all, AllByRecursion}
 use Rattle.flr_base.specs.declared.reply.ObjectId.{ObjectId}
-use Rattle.flr_base.specs.declared.reply.Stripe.{Stripe}
+use Rattle.flr_base.specs.Stripes.{IsStripe}
 use Rattle.composite_layout.specs.declared.component.Component.{Component}
 use Rattle.composite_layout.specs.declared.component.State.{State}
 use Rattle.composite_layout.specs.declared.component.State.TheVariants as states
@@ -58,14 +58,6 @@ is_used q seen = list_any (λ d. nat_eq q (counter_of d)) seen
 abbrev pub Numbered : ℕ → List Component → List Component → Type 0
 Numbered next seen [] = Unit {0}
 Numbered next seen (c ∷ cs) = (0 < counter_of c) × (counter_of c < next) × (is_used (counter_of c) seen ≡ false) × Numbered next (seen ++ c ∷ []) cs
-
--- a stripe unit is a multiple of 65536 bytes from 65536 to 2^30, and there are 1 to 64 stripes
-pub record IsStripe (stripe : Stripe) : Type 0 where
-  pub aligned : stripe.size % 65536 ≡ 0
-  pub least_size : 65536 ≤ stripe.size
-  pub most_size : stripe.size ≤ 2 ^ 30
-  pub least_count : 0 < stripe.count
-  pub most_count : stripe.count ≤ 64
 
 -- an object is on one of at most 64 targets, and its number is at least 1
 abbrev pub IsObject : ObjectId → Type 0

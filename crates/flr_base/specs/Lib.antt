@@ -7,3 +7,4 @@ pub mod Runs
 pub mod Scan
 pub mod RunsAnswers
 pub mod Bytes
+pub mod Stripes

@@ -44,7 +44,7 @@ add_keeps old new mirrors targets most v s some few le room h =
     let made = new_mirrors true targets (unleased old).next_mirror (unleased old).next_counter mirrors in
     same_layout _ new.generation _ new.state _ new.next_mirror _ new.next_counter _ new.components (sym h.generation) (sym h.state) (sym h.next_mirror) (sym h.next_counter) (sym h.components)
     (added_is old v targets most (unleased old).generation (unleased old).next_mirror (unleased old).next_counter (part_count mirrors) (unleased old).state (added_state (unleased old).state) mirrors mirrors (unleased old).components made ((unleased old).components ++ made) (excess old (length mirrors) (part_count mirrors) most)
-      some few le s refl refl k.0 k.1 refl refl refl room k.2 refl refl)
+    some few le s refl refl k.0 k.1 refl refl refl room k.2 refl refl)
 
 remove_keeps : (old new : Composite) (mirror : ℕ) → IsValid old → keeping mirror old.components ≡ None → IsRemove mirror (unleased old) new → IsValid new
 remove_keeps old new mirror v may h =
@@ -85,7 +85,7 @@ merge_keeps old victim new v w h =
     let run = run_taken victim w (old.next_mirror - 1) old.next_counter ∙ ap (λ (id : ℕ). taken_in id old.next_counter victim.components) e in
     same_layout _ new.generation _ new.state _ new.next_mirror _ new.next_counter _ new.components (sym m.generation) (sym m.state) (sym m.next_mirror) (sym m.next_counter) (sym m.components)
     (merged_is old victim v w h.most (max old.generation victim.generation) old.next_mirror old.next_counter n k old.components victim.components (taken_in old.next_mirror old.next_counter victim.components) (old.components ++ taken_in old.next_mirror old.next_counter victim.components) (excess old n k h.most)
-      h.few refl refl refl refl refl h.within refl refl (sym run) refl)
+    h.few refl refl refl refl refl h.within refl refl (sym run) refl)
 
 -- what is split off from a valid layout is valid
 pub part_keeps : (mirror : ℕ) (old part : Composite) → IsValid old → IsSplitOff mirror old part → IsValid part

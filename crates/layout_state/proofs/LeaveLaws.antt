@@ -14,7 +14,8 @@ use Rattle.composite_layout.proofs.Steps.{length_ids}
 use Rattle.layout_state.specs.declared.error.StateError.{StateError}
 use Rattle.layout_state.specs.declared.error.StateError.TheVariants as errors
 use Rattle.layout_state.specs.Breaking.{unleased}
-use Rattle.layout_state.specs.Mirroring.{of_mirror, without, has_fresh, keeping, left_state}
+use Rattle.layout_state.specs.Mirroring.{of_mirror, without, keeping, left_state}
+use Rattle.layout_state.specs.Choosing.{has_fresh}
 use Rattle.layout_state.proofs.MirrorLaws.{ids_of}
 use Rattle.layout_state.proofs.BreakLaws.{Goes, few_mirrors}
 use Rattle.layout_state.proofs.AppendLaws.{goes_unleased}

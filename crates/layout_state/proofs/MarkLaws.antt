@@ -1,5 +1,5 @@
 -- A list of components that differs in flags and objects alone is valid as before, and what it needs.
-use Rattle.std.proofs.Common.{◌≡◌, ℕ, suc, ◌+◌, ◌%◌, ◌<◌, ◌≤◌, Bool, true, false, cond, not, ◌&&◌, eqb, List, [], ◌∷◌, ◌++◌, length, map, take, drop, Option, Some, None, refl, sym, ap, subst, ◌∙◌, inl, inr, arith}
+use Rattle.std.proofs.Common.{◌≡◌, ℕ, suc, ◌+◌, ◌%◌, ◌<◌, ◌≤◌, Bool, true, false, cond, not, ◌&&◌, eqb, List, [], ◌∷◌, ◌++◌, length, map, filter, take, drop, Option, Some, None, refl, sym, ap, subst, ◌∙◌, inl, inr, arith}
 use Rattle.std.specs.List.{list_any, AllByRecursion}
 use Rattle.std.proofs.lemmas.Bool.{cases_Bool, eqb-true, eqb-false, eq-eqb, ne_eqb, or_parts, or_cases, or_from, or_left, or_right, not-true, false≢true}
 use Rattle.std.proofs.lemmas.List.{take-map, drop-map, take-append-drop}
@@ -10,12 +10,13 @@ use Rattle.composite_layout.specs.declared.component.State.{State}
 use Rattle.composite_layout.specs.declared.component.State.TheVariants as states
 use Rattle.composite_layout.specs.FlagChanges.{FlagSets}
 use Rattle.composite_layout.specs.Layouts.{Composite, Mirror, Tiles, AreOf, Ascend, parts_of, counter_of, is_used, Numbered, IsShaped, all_fresh, some_fresh, IsValid}
-use Rattle.composite_layout.specs.LookUps.{has_stale, mirror_ids}
+use Rattle.composite_layout.specs.LookUps.{begins_mirror, has_mirror, has_stale, mirror_ids, wholly_fresh}
 use Rattle.composite_layout.specs.Making.{new_state}
 use Rattle.layout_state.specs.declared.error.StateError.{StateError}
 use Rattle.layout_state.specs.declared.error.StateError.TheVariants as errors
 use Rattle.layout_state.specs.Breaking.{unleased}
-use Rattle.layout_state.specs.Marking.{Frame, frame_of, changed_if_named, flags_refusal, fresh_if_named, has_wholly_fresh, is_named, mirror_of, with_stale}
+use Rattle.layout_state.specs.Choosing.{has_fresh}
+use Rattle.layout_state.specs.Marking.{Frame, frame_of, changed_if_named, flags_refusal, fresh_if_named, is_named, mirror_of, with_stale}
 use Rattle.layout_state.proofs.ChoiceLaws.{is_among}
 use Rattle.layout_state.proofs.MirrorLaws.{ids_of, count_ids}
 use Rattle.layout_state.proofs.BreakLaws.{Goes, some_mirror, few_mirrors}
@@ -142,9 +143,22 @@ passes p (y ∷ ys) x h e = elim (or_cases (eqb y x) (is_among x ys) h) as (λ _
   | inr there ↦ or_right _ _ (passes p ys x there e)
 ]
 
-pub to_HasFresh : (cs : List Component) → has_wholly_fresh cs ≡ true → HasFresh cs
+fresh_begun : (all cs : List Component) (c : Component) (b : Bool) → has_mirror c.mirror all ≡ true → list_any (λ (id : ℕ). wholly_fresh id all) (mirror_ids cs) ≡ list_any (λ (id : ℕ). not (has_stale id all)) (mirror_ids cs)
+    → list_any (λ (id : ℕ). wholly_fresh id all) (map (λ (d : Component). d.mirror) (cond b (c ∷ filter begins_mirror cs) (filter begins_mirror cs))) ≡ list_any (λ (id : ℕ). not (has_stale id all)) (map (λ (d : Component). d.mirror) (cond b (c ∷ filter begins_mirror cs) (filter begins_mirror cs)))
+fresh_begun all cs c true there rest = rw (there, rest) refl
+fresh_begun all cs c false there rest = rest
+
+fresh_within : (all cs : List Component) → ((k : ℕ) → has_mirror k cs ≡ true → has_mirror k all ≡ true) → list_any (λ (id : ℕ). wholly_fresh id all) (mirror_ids cs) ≡ list_any (λ (id : ℕ). not (has_stale id all)) (mirror_ids cs)
+fresh_within all [] sub = refl
+fresh_within all (c ∷ cs) sub = fresh_begun all cs c (begins_mirror c) (sub c.mirror (or_left _ _ (eq-eqb c.mirror c.mirror refl))) (fresh_within all cs (λ k h. sub k (or_right _ _ h)))
+
+-- a mirror that is there is wholly fresh where it has no stale component
+pub fresh_there : (cs : List Component) → has_fresh cs ≡ list_any (λ (mirror : ℕ). not (has_stale mirror cs)) (mirror_ids cs)
+fresh_there cs = fresh_within cs cs (λ k h. h)
+
+pub to_HasFresh : (cs : List Component) → has_fresh cs ≡ true → HasFresh cs
 to_HasFresh cs h =
-    let w = passing (λ (mirror : ℕ). not (has_stale mirror cs)) (mirror_ids cs) h in
+    let w = passing (λ (mirror : ℕ). not (has_stale mirror cs)) (mirror_ids cs) (sym (fresh_there cs) ∙ h) in
     record { mirror = w.0; there = w.1; fresh = not-true _ w.2 }
 
 all_fresh_of : (id : ℕ) (cs : List Component) → AreOf id cs → has_stale id cs ≡ false → all_fresh cs ≡ true
@@ -320,7 +334,7 @@ flags_shaped id change c s = elim (cases_Bool (eqb c.id id)) as (λ _. IsShaped 
 ]
 
 -- a change of flags that leaves a mirror wholly fresh leaves a layout valid
-pub flags_valid : (l : Composite) → IsValid l → (id : ℕ) (change : FlagSets) → has_wholly_fresh (map (changed_if_named id change) l.components) ≡ true → IsValid (record l { generation = l.generation + 1; components = map (changed_if_named id change) l.components })
+pub flags_valid : (l : Composite) → IsValid l → (id : ℕ) (change : FlagSets) → has_fresh (map (changed_if_named id change) l.components) ≡ true → IsValid (record l { generation = l.generation + 1; components = map (changed_if_named id change) l.components })
 flags_valid l v id change fresh =
     marked_valid l v (map (changed_if_named id change) l.components) (l.generation + 1) l.state (frames_map _ (flags_frame id change) l.components) (shaped_map _ (flags_shaped id change) l.components v.shaped) (to_HasFresh _ fresh) (omega arith) (v.low, v.high)
 
@@ -342,24 +356,24 @@ pub unleased_components : (l : Composite) → (unleased l).components ≡ l.comp
 unleased_components l = unleased_from l.generation l.state l.next_mirror l.next_counter l.components
 
 -- where a change of flags isn't refused some mirror stays wholly fresh
-pub not_refused : (id : ℕ) (change : FlagSets) (cs : List Component) → flags_refusal id change cs ≡ None → has_wholly_fresh (map (changed_if_named id change) cs) ≡ true
+pub not_refused : (id : ℕ) (change : FlagSets) (cs : List Component) → flags_refusal id change cs ≡ None → has_fresh (map (changed_if_named id change) cs) ≡ true
 not_refused id change cs h = at (mirror_of id cs) h
   where
     refused : Option ℕ → Option StateError
     refused None = Some (errors.NoComponent id)
-    refused (Some mirror) = cond (has_wholly_fresh (map (changed_if_named id change) cs)) None (Some (errors.LastFresh mirror))
+    refused (Some mirror) = cond (has_fresh (map (changed_if_named id change) cs)) None (Some (errors.LastFresh mirror))
 
     kept : (mirror : ℕ) (b : Bool) → cond b None (Some (errors.LastFresh mirror)) ≡ None → b ≡ true
     kept mirror true e = refl
     kept mirror false e = absurd cc
 
-    at : (o : Option ℕ) → refused o ≡ None → has_wholly_fresh (map (changed_if_named id change) cs) ≡ true
+    at : (o : Option ℕ) → refused o ≡ None → has_fresh (map (changed_if_named id change) cs) ≡ true
     at None e = absurd cc
-    at (Some mirror) e = kept mirror (has_wholly_fresh (map (changed_if_named id change) cs)) e
+    at (Some mirror) e = kept mirror (has_fresh (map (changed_if_named id change) cs)) e
 
 -- whether some mirror is wholly fresh after a change of flags, by the mirrors from before
-pub fresh_after : (id : ℕ) (change : FlagSets) (cs : List Component) → has_wholly_fresh (map (changed_if_named id change) cs) ≡ list_any (λ (mirror : ℕ). not (has_stale mirror (map (changed_if_named id change) cs))) (mirror_ids cs)
-fresh_after id change cs = ap (λ (ids : List ℕ). list_any (λ (mirror : ℕ). not (has_stale mirror (map (changed_if_named id change) cs))) ids) (same_ids cs (map (changed_if_named id change) cs) (frames_map _ (flags_frame id change) cs))
+pub fresh_after : (id : ℕ) (change : FlagSets) (cs : List Component) → has_fresh (map (changed_if_named id change) cs) ≡ list_any (λ (mirror : ℕ). not (has_stale mirror (map (changed_if_named id change) cs))) (mirror_ids cs)
+fresh_after id change cs = fresh_there (map (changed_if_named id change) cs) ∙ ap (λ (ids : List ℕ). list_any (λ (mirror : ℕ). not (has_stale mirror (map (changed_if_named id change) cs))) ids) (same_ids cs (map (changed_if_named id change) cs) (frames_map _ (flags_frame id change) cs))
 
 -- a change of flags that isn't refused leaves a layout valid
 pub flagged_valid : (old l : Composite) → l ≡ unleased old → IsValid l → (id : ℕ) (change : FlagSets) → flags_refusal id change old.components ≡ None → IsValid (record l { generation = l.generation + 1; components = map (changed_if_named id change) l.components })

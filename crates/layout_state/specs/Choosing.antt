@@ -52,3 +52,7 @@ others_stale range cs mirror = list_all (λ c. not (overlaps range c) || (nat_eq
 -- no other mirror than this is wholly fresh
 abbrev pub IsOnlyFresh : List Component → ℕ → Type 0
 IsOnlyFresh cs mirror = (k : ℕ) → wholly_fresh k cs ≡ true → k ≡ mirror
+
+-- whether some mirror is wholly fresh
+abbrev pub has_fresh : List Component → Bool
+has_fresh cs = list_any (λ id. wholly_fresh id cs) (mirror_ids cs)

@@ -14,7 +14,7 @@ use Rattle.composite_layout.specs.Making.{new_state}
 use Rattle.layout_state.specs.declared.error.StateError.{StateError}
 use Rattle.layout_state.specs.declared.error.StateError.TheVariants as errors
 use Rattle.layout_state.specs.Breaking.{pending, unleased}
-use Rattle.layout_state.specs.Choosing.{is_over, primary_of}
+use Rattle.layout_state.specs.Choosing.{has_fresh, is_over, primary_of}
 use Rattle.layout_state.specs.Making.{with_new_objects, new_targets, nexts_after}
 
 -- whether the component's id is one of these
@@ -67,10 +67,6 @@ abbrev pub IsFlags : ℕ → FlagSets → Composite → Composite → Type 0
 IsFlags id change old new =
     new ≡ record (unleased old) { generation = (unleased old).generation + 1; components = map (changed_if_named id change) old.components }
 
--- whether some mirror is wholly fresh
-abbrev pub has_wholly_fresh : List Component → Bool
-has_wholly_fresh cs = list_any (λ mirror. not (has_stale mirror cs)) (mirror_ids cs)
-
 -- the mirror of the component with this id
 abbrev pub mirror_of : ℕ → List Component → Option ℕ
 mirror_of id cs = option_map (λ c. c.mirror) (find (λ c. nat_eq c.id id) cs)
@@ -81,7 +77,7 @@ flags_refusal id change cs = refusal_at (mirror_of id cs)
   where
     refusal_at : Option ℕ → Option StateError
     refusal_at None = Some (errors.NoComponent id)
-    refusal_at (Some mirror) = if has_wholly_fresh (map (changed_if_named id change) cs) then None else Some (errors.LastFresh mirror)
+    refusal_at (Some mirror) = if has_fresh (map (changed_if_named id change) cs) then None else Some (errors.LastFresh mirror)
 
 -- ---- the begin of a copy
 

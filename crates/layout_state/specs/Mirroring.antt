@@ -8,6 +8,7 @@ use Rattle.composite_layout.specs.declared.spec.MirrorSpec.{MirrorSpec}
 use Rattle.composite_layout.specs.Layouts.{Composite}
 use Rattle.composite_layout.specs.LookUps.{begins_mirror, has_mirror, mirror_ids, wholly_fresh}
 use Rattle.composite_layout.specs.Making.{new_mirrors, part_count}
+use Rattle.layout_state.specs.Choosing.{has_fresh}
 use Rattle.layout_state.specs.declared.error.StateError.{StateError}
 use Rattle.layout_state.specs.declared.error.StateError.TheVariants as errors
 
@@ -71,10 +72,6 @@ of_mirror mirror cs = filter (λ c. nat_eq c.mirror mirror) cs
 -- the components of the other mirrors
 abbrev pub without : ℕ → List Component → List Component
 without mirror cs = filter (λ c. not (nat_eq c.mirror mirror)) cs
-
--- whether some mirror is wholly fresh
-abbrev pub has_fresh : List Component → Bool
-has_fresh cs = list_any (λ id. wholly_fresh id cs) (mirror_ids cs)
 
 -- why a mirror can't go: it isn't there, or no wholly fresh one would be left
 abbrev pub keeping : ℕ → List Component → Option StateError

@@ -4,7 +4,7 @@ ghost use Rattle.std.specs.List.{list_any};
 ghost use Rattle.composite_layout.specs.LookUps.{has_stale, mirror_ids};
 ghost use Rattle.composite_layout.specs.Making.{new_state};
 ghost use Rattle.layout_state.specs.Breaking.{unleased};
-ghost use Rattle.layout_state.specs.Marking.{changed_if_named, flags_refusal, fresh_if_named, has_wholly_fresh, IsDone, IsFlags, mirror_of, with_change};
+ghost use Rattle.layout_state.specs.Marking.{changed_if_named, flags_refusal, fresh_if_named, IsDone, IsFlags, mirror_of, with_change};
 
 use crate::error::StateError;
 use crate::leases::break_lease;

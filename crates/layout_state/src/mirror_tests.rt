@@ -1,8 +1,8 @@
 ghost use Rattle.std.specs.Prelude.{◌≡◌, ◌<◌, ◌≤◌, length, IfOk};
 
 use crate::{
-    StateError, add_mirrors, break_lease, generations_grow, merge, mirrors_stay_as_fresh, remove_mirror,
-    what_mirrors_keep,
+    StateError, add_mirrors, break_lease, generations_grow, merge, mirrors_stay_as_fresh,
+    remove_mirror, what_mirrors_keep,
 };
 use composite_layout::{Component, Flags, Layout, MirrorSpec, MirrorSpecs, Part, Spec, State};
 use flr_base::{EOF, Listed, NoMemory, ObjectId, Range, Stripe};

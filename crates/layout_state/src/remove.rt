@@ -4,7 +4,8 @@ ghost use Rattle.composite_layout.specs.LookUps.{begins_mirror, has_mirror, mirr
 ghost use Rattle.layout_state.specs.declared.error.StateError.TheVariants as errors;
 ghost use Rattle.layout_state.specs.Breaking.{unleased};
 ghost use Rattle.layout_state.specs.Refusing.{IsRefusal};
-ghost use Rattle.layout_state.specs.Mirroring.{IsRemove, Off, has_fresh, keeping, left_state, of_mirror, without};
+ghost use Rattle.layout_state.specs.Mirroring.{IsRemove, Off, keeping, left_state, of_mirror, without};
+ghost use Rattle.layout_state.specs.Choosing.{has_fresh};
 
 use crate::error::StateError;
 use crate::leases::unleased;

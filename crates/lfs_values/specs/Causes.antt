@@ -13,7 +13,6 @@ cause_at faults.UnknownWord place = causes.UnknownWord place
 cause_at faults.Extra place = causes.Extra place
 cause_at faults.BadNumber place = causes.BadNumber place
 cause_at faults.BadName place = causes.BadName place
-cause_at faults.BadBytes place = causes.BadBytes place
 cause_at faults.Repeated place = causes.Repeated place
 cause_at faults.Conflict place = causes.Conflict place
 

@@ -52,7 +52,7 @@ pub enum Cause {
     Memory,
 }
 
-/// What is wrong with a word, wherever it stands.
+/// What is wrong with a word of an `lfs` command, wherever it stands.
 #[derive(Clone, Copy, Debug, PartialEq, Eq)]
 pub enum Fault {
     /// It is nothing that may stand there.
@@ -63,8 +63,6 @@ pub enum Fault {
     BadNumber,
     /// It isn't a name.
     BadName,
-    /// It doesn't spell bytes.
-    BadBytes,
     /// It, or an item of it, stood before.
     Repeated,
     /// It contradicts one before it.
@@ -105,7 +103,6 @@ pub fn cause_at(fault: Fault, place: u32) -> Cause
         Fault::Extra => Cause::Extra { place },
         Fault::BadNumber => Cause::BadNumber { place },
         Fault::BadName => Cause::BadName { place },
-        Fault::BadBytes => Cause::BadBytes { place },
         Fault::Repeated => Cause::Repeated { place },
         Fault::Conflict => Cause::Conflict { place },
     }

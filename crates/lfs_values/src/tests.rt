@@ -24,7 +24,7 @@ fn causes_have_their_texts(rt: HostRuntime) -> Result<(), Fail> {
             b"bad number 4294967295",
         ),
         (cause_at(Fault::BadName, 3), b"bad name 3"),
-        (cause_at(Fault::BadBytes, 4), b"bad bytes 4"),
+        (Cause::BadBytes { place: 4 }, b"bad bytes 4"),
         (cause_at(Fault::Repeated, 5), b"repeated 5"),
         (cause_at(Fault::Conflict, 7), b"conflict 7"),
         (Cause::SameFile, b"same file"),

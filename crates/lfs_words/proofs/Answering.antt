@@ -150,7 +150,6 @@ fault_cause most words at faults.UnknownWord h = (at, refl, h)
 fault_cause most words at faults.Extra h = (at, refl, h)
 fault_cause most words at faults.BadNumber h = (at, refl, h)
 fault_cause most words at faults.BadName h = (at, refl, h)
-fault_cause most words at faults.BadBytes h = (at, refl, h)
 fault_cause most words at faults.Repeated h = (at, refl, h)
 fault_cause most words at faults.Conflict h = (at, refl, h)
 

@@ -5,7 +5,7 @@ use Rattle.std.specs.List.{list_any, AllByRecursion}
 use Rattle.std.proofs.Math.Nat.{mod-lt}
 use Rattle.std.proofs.lemmas.Bool.{cases_Bool, and_from, and_parts, eq-eqb, le-leb, leb-true, lt-ltb, ltb-true, or_parts, both_ways}
 use Rattle.std.proofs.lemmas.List.Folds.{list_any-append}
-use Rattle.stripe_map.specs.Places.{IsStripe}
+use Rattle.flr_base.specs.Stripes.{IsStripe}
 use Rattle.composite_layout.specs.declared.component.Component.{Component}
 use Rattle.composite_layout.specs.Layouts.{eof, Composite, Mirror, is_end, Tiles, AreOf, Ascend, parts_of, counter_of, is_used, Numbered, IsShaped, IsValid}
 use Rattle.composite_layout.specs.LookUps.{covers, has_mirror}
@@ -33,9 +33,7 @@ pub record AreGood (cs : List Component) : Type 0 where
 
 -- the stripes are as those of RAID0 are to be
 pub striped : (c : Component) → IsGood c → IsStripe c.stripe
-striped c good =
-    let s = good.shaped.stripe in
-    record { aligned = s.aligned; least = s.least_size; most = s.most_size; some = s.least_count; few = s.most_count }
+striped c good = good.shaped.stripe
 
 pub in_append : {X : Type 0} (x : X) (xs ys : List X) → In x (xs ++ ys) → In x xs ⊎ In x ys
 in_append x [] ys i = inr i

@@ -1,5 +1,5 @@
 ghost use Rattle.std.specs.Prelude.{◌≡◌, ◌<◌, ◌^◌, None, All, IfOk, OnOk, IfErr};
-ghost use Rattle.stripe_map.specs.Places.{IsStripe};
+ghost use Rattle.flr_base.specs.Stripes.{IsStripe};
 ghost use Rattle.mirror_select.specs.Candidates.{all_offline, chosen, is_candidate};
 ghost use Rattle.mirror_select.specs.Pieces.{Lacks, first_without, piece_at, pieces_by, pieces_of};
 ghost use Rattle.mirror_select.specs.Walking.{AreValid, IsFirstPiece, nearest, piece_end, takes_over};

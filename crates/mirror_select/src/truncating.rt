@@ -1,6 +1,7 @@
 ghost use Rattle.std.specs.Prelude.{◌≡◌, ◌<◌, ◌^◌, ◌++◌, true, length, map, position, IfOk, OnOk, Some};
 ghost use Rattle.std.specs.Option.{ForSome};
-ghost use Rattle.stripe_map.specs.Places.{IsStripe, tail_of};
+ghost use Rattle.flr_base.specs.Stripes.{IsStripe};
+ghost use Rattle.stripe_map.specs.Places.{tail_of};
 ghost use Rattle.composite_layout.specs.Choices.{is_ready};
 ghost use Rattle.composite_layout.specs.Layouts.{IsShaped, eof};
 ghost use Rattle.mirror_select.specs.Tails.{ends_above, has_lower_id, is_better_id, is_lowest, is_next, stripes_in, tail_in, tails_of};

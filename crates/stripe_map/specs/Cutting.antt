@@ -4,7 +4,8 @@ use Rattle.std.specs.List.{range_with_len}
 use Rattle.flr_base.specs.declared.reply.Range.{Range}
 use Rattle.flr_base.specs.declared.reply.Stripe.{Stripe}
 use Rattle.stripe_map.specs.declared.places.Cut.{Cut}
-use Rattle.stripe_map.specs.Places.{IsStripe, place_of}
+use Rattle.flr_base.specs.Stripes.{IsStripe}
+use Rattle.stripe_map.specs.Places.{place_of}
 
 -- the stripe units that a range touches, counted from 0 in the file
 abbrev pub units_of : Range → ℕ → List ℕ

@@ -3,14 +3,6 @@ use Rattle.std.specs.Prelude.{◌≡◌, ℕ, ◌+◌, ◌*◌, ◌/◌, ◌%◌
 use Rattle.flr_base.specs.declared.reply.Stripe.{Stripe}
 use Rattle.stripe_map.specs.declared.places.Place.{Place}
 
--- a stripe size from 65536 to 1073741824 bytes that is a multiple of 65536, and 1 to 64 stripes
-pub record IsStripe (stripe : Stripe) : Type 0 where
-  pub aligned : stripe.size % 65536 ≡ 0
-  pub least : 65536 ≤ stripe.size
-  pub most : stripe.size ≤ 1073741824
-  pub some : 1 ≤ stripe.count
-  pub few : stripe.count ≤ 64
-
 -- the place of a byte of the file
 abbrev pub place_of : ℕ → Stripe → Place
 place_of x stripe = record {

@@ -1,6 +1,6 @@
 ghost use Rattle.std.specs.Prelude.{◌≡◌, ◌≤◌, ◌<◌, ◌^◌, map, All, length};
 ghost use Rattle.std.specs.Iterator.{YieldsFirst, item_count};
-ghost use Rattle.stripe_map.specs.Places.{IsStripe};
+ghost use Rattle.flr_base.specs.Stripes.{IsStripe};
 ghost use Rattle.stripe_map.specs.Cutting.{IsCut, Tile, cuts_of, unit_of_cut, units_of};
 
 use crate::mapping::place;

@@ -1,5 +1,6 @@
 ghost use Rattle.std.specs.Prelude.{◌≡◌, ◌<◌, ◌^◌};
-ghost use Rattle.stripe_map.specs.Places.{IsStripe, back_of, place_of};
+ghost use Rattle.flr_base.specs.Stripes.{IsStripe};
+ghost use Rattle.stripe_map.specs.Places.{back_of, place_of};
 
 use crate::places::Place;
 use flr_base::Stripe;

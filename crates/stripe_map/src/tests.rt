@@ -1,5 +1,5 @@
 ghost use Rattle.std.specs.Prelude.{◌≡◌, ◌<◌, ◌^◌};
-ghost use Rattle.stripe_map.specs.Places.{IsStripe};
+ghost use Rattle.flr_base.specs.Stripes.{IsStripe};
 
 use crate::{Cut, Place, back, cut, place};
 use flr_base::{Range, Stripe};
