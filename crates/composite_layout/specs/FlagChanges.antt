@@ -8,7 +8,7 @@ pub record FlagSets : Type 0 where
   pub clear : Flags
 
 -- no flag is both set and cleared, init is neither, and stale isn't cleared
-pub record IsFlagChange (change : FlagSets) : Type 0 where
+pub record AreFlagSets (change : FlagSets) : Type 0 where
   pub init_set : change.set.init ≡ false
   pub init_clear : change.clear.init ≡ false
   pub stale : change.clear.stale ≡ false

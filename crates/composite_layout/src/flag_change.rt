@@ -10,13 +10,13 @@ pub struct FlagChange {
 }
 
 impl Model for FlagChange {
-    ghost use Rattle.composite_layout.specs.FlagChanges.{FlagSets, IsFlagChange};
+    ghost use Rattle.composite_layout.specs.FlagChanges.{FlagSets, AreFlagSets};
 
     ghost Value = { FlagSets };
 
     ghost view = { λ c. record { set = c.set; clear = c.clear } };
 
-    ghost invariant = { λ c. IsFlagChange (record { set = c.set; clear = c.clear }) };
+    ghost invariant = { λ c. AreFlagSets (record { set = c.set; clear = c.clear }) };
 
     ghost inverse = { λ v. record { set = v.set; clear = v.clear } };
 }

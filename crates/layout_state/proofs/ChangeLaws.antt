@@ -10,8 +10,8 @@ use Rattle.composite_layout.specs.LookUps.{begins_mirror, mirror_ids}
 use Rattle.composite_layout.specs.Making.{new_mirrors, part_count}
 use Rattle.composite_layout.specs.Specs.{IsSpec}
 use Rattle.composite_layout.proofs.Steps.{length_ids}
-use Rattle.layout_state.specs.Breaking.{broken, unleased}
-use Rattle.layout_state.specs.Mirroring.{added_state, excess, keeping, left_state, of_mirror, taken_in, without, IsAdd, IsRemove, Merge, Off}
+use Rattle.layout_state.specs.Breaking.{unleased}
+use Rattle.layout_state.specs.Mirroring.{added_state, excess, keeping, left_state, of_mirror, taken_in, IsAdd, IsRemove}
 use Rattle.layout_state.specs.Changes.{Change, Intent, Begin, Break, Done, Add, Remove, Flags, TakesIn, IsSplitOff}
 use Rattle.layout_state.proofs.AppendLaws.{added_is, begun}
 use Rattle.layout_state.proofs.BreakLaws.{broken_valid}

@@ -13,7 +13,7 @@ use Rattle.layout_state.specs.Breaking.{unleased}
 use Rattle.layout_state.specs.Choosing.{is_over}
 use Rattle.layout_state.specs.Keeping.{Stays, StaysStale}
 use Rattle.layout_state.specs.Making.{gets_objects, made_for, nexts_for, with_made, with_new_objects}
-use Rattle.layout_state.specs.Marking.{is_named, with_stale, fresh_if_named, changed_if_named, stale_if_behind, IsDone, IsFlags, IsBegin, IsIntent}
+use Rattle.layout_state.specs.Marking.{is_named, with_stale, fresh_if_named, changed_if_named, stale_if_behind, IsDone, IsFlagChange, IsBegin, IsIntent}
 use Rattle.layout_state.proofs.ObjectLaws.{made_frame, made_stale}
 
 -- ---- each component by itself
@@ -85,7 +85,7 @@ parts e = ap (λ (l : Composite). l.components) e
 pub done_stays : (ids : List ℕ) (old new : Composite) → IsDone ids old new → AllZip Stays old.components new.components
 done_stays ids old new h = rw (parts h) (zip_map Stays (fresh_if_named ids) (fresh_stays ids) old.components)
 
-pub flags_change_stays : (id : ℕ) (change : FlagSets) (old new : Composite) → IsFlags id change old new → AllZip Stays old.components new.components
+pub flags_change_stays : (id : ℕ) (change : FlagSets) (old new : Composite) → IsFlagChange id change old new → AllZip Stays old.components new.components
 flags_change_stays id change old new h = rw (parts h) (zip_map Stays (changed_if_named id change) (flags_stay id change) old.components)
 
 pub begin_stays : (ids : List ℕ) (file : ℕ) (nexts : List ℕ) (old new : Composite) (after : List ℕ) → IsBegin ids file nexts old new after → AllZip Stays old.components new.components
@@ -98,7 +98,7 @@ intent_stays range mirror file nexts old new after h =
 made_stale_stays : (wanted : Component → Bool) (file : ℕ) (nexts : List ℕ) (c : Component) → StaysStale c (with_made c (made_for (gets_objects wanted c) file nexts c))
 made_stale_stays wanted file nexts c = λ h. made_stale (gets_objects wanted c) file nexts c ∙ h
 
-pub flags_stay_stale : (id : ℕ) (change : FlagSets) (old new : Composite) → IsFlags id change old new → AllZip StaysStale old.components new.components
+pub flags_stay_stale : (id : ℕ) (change : FlagSets) (old new : Composite) → IsFlagChange id change old new → AllZip StaysStale old.components new.components
 flags_stay_stale id change old new h = rw (parts h) (zip_map StaysStale (changed_if_named id change) (flags_stale id change) old.components)
 
 pub begin_stays_stale : (ids : List ℕ) (file : ℕ) (nexts : List ℕ) (old new : Composite) (after : List ℕ) → IsBegin ids file nexts old new after → AllZip StaysStale old.components new.components
@@ -122,7 +122,7 @@ unleased_grows l = unleased_grows_from l.generation l.state l.next_mirror l.next
 pub done_grows : (ids : List ℕ) (old new : Composite) → IsDone ids old new → old.generation < new.generation
 done_grows ids old new h = let e = ap (λ (l : Composite). l.generation) h in omega (arith, e)
 
-pub flags_grow : (id : ℕ) (change : FlagSets) (old new : Composite) → IsFlags id change old new → old.generation < new.generation
+pub flags_grow : (id : ℕ) (change : FlagSets) (old new : Composite) → IsFlagChange id change old new → old.generation < new.generation
 flags_grow id change old new h = let e = ap (λ (l : Composite). l.generation) h in let le = unleased_grows old in omega (arith, e, le)
 
 pub begin_grows : (ids : List ℕ) (file : ℕ) (nexts : List ℕ) (old new : Composite) (after : List ℕ) → IsBegin ids file nexts old new after → old.generation < new.generation

@@ -10,7 +10,7 @@ use Rattle.composite_layout.specs.LookUps.{mirror_ids, wholly_fresh}
 use Rattle.layout_state.specs.Breaking.{pending, unleased}
 use Rattle.layout_state.specs.Choosing.{IsPrimary, primary_of}
 use Rattle.layout_state.specs.Making.{AreNext}
-use Rattle.layout_state.specs.Marking.{changed_if_named, flags_refusal, IsDone, IsFlags, IsBegin, IsIntent}
+use Rattle.layout_state.specs.Marking.{changed_if_named, flags_refusal, IsDone, IsFlagChange, IsBegin, IsIntent}
 use Rattle.layout_state.proofs.BreakLaws.{broken_valid}
 use Rattle.layout_state.proofs.ChoiceLaws.{primary_least, primary_fresh}
 use Rattle.layout_state.proofs.MarkLaws.{done_valid, flagged_valid, unleased_components}
@@ -28,7 +28,7 @@ unleased_valid l v = unleased_valid_from l.generation l.state l.next_mirror l.ne
 pub done_keeps : (ids : List ℕ) (old new : Composite) → IsValid old → IsDone ids old new → IsValid new
 done_keeps ids old new v h = subst IsValid (sym h) (done_valid old v ids)
 
-pub flags_keep : (id : ℕ) (change : FlagSets) (old new : Composite) → IsValid old → flags_refusal id change old.components ≡ None → IsFlags id change old new → IsValid new
+pub flags_keep : (id : ℕ) (change : FlagSets) (old new : Composite) → IsValid old → flags_refusal id change old.components ≡ None → IsFlagChange id change old new → IsValid new
 flags_keep id change old new v none h =
     subst IsValid (sym h) (subst (λ (cs : List Component). IsValid (record (unleased old) { generation = (unleased old).generation + 1; components = map (changed_if_named id change) cs })) (unleased_components old) (flagged_valid old (unleased old) refl (unleased_valid old v) id change none))
 

@@ -10,7 +10,7 @@ use Rattle.composite_layout.specs.Specs.{IsSpec}
 use Rattle.layout_state.specs.Breaking.{broken, unleased}
 use Rattle.layout_state.specs.Choosing.{primary_of}
 use Rattle.layout_state.specs.Making.{AreNext}
-use Rattle.layout_state.specs.Marking.{flags_refusal, IsBegin, IsDone, IsFlags, IsIntent}
+use Rattle.layout_state.specs.Marking.{flags_refusal, IsBegin, IsDone, IsFlagChange, IsIntent}
 use Rattle.layout_state.specs.Mirroring.{excess, keeping, IsAdd, IsRemove, Merge, Off}
 
 -- the lease is broken
@@ -25,7 +25,7 @@ pub data Change (old new : Composite) : Type 0 where
   Done : (ids : List ℕ) → IsDone ids old new → Change old new
   Add : (mirrors : List MirrorSpec) (targets most : ℕ) → IsSpec mirrors → 0 < targets → targets ≤ 64 → most ≤ 32 → excess old (length mirrors) (part_count mirrors) most ≡ None → IsAdd mirrors targets (unleased old) new → Change old new
   Remove : (mirror : ℕ) → keeping mirror old.components ≡ None → IsRemove mirror (unleased old) new → Change old new
-  Flags : (id : ℕ) (change : FlagSets) → flags_refusal id change old.components ≡ None → IsFlags id change old new → Change old new
+  Flags : (id : ℕ) (change : FlagSets) → flags_refusal id change old.components ≡ None → IsFlagChange id change old new → Change old new
 
 -- a layout takes in another, which isn't refused
 pub record TakesIn (old victim new : Composite) : Type 0 where

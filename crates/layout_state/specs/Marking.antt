@@ -9,7 +9,7 @@ use Rattle.composite_layout.specs.declared.component.State.TheVariants as states
 use Rattle.composite_layout.specs.Choices.{overlaps}
 use Rattle.composite_layout.specs.FlagChanges.{FlagSets}
 use Rattle.composite_layout.specs.Layouts.{Composite}
-use Rattle.composite_layout.specs.LookUps.{has_stale, mirror_ids}
+use Rattle.composite_layout.specs.LookUps.{mirror_ids}
 use Rattle.composite_layout.specs.Making.{new_state}
 use Rattle.layout_state.specs.declared.error.StateError.{StateError}
 use Rattle.layout_state.specs.declared.error.StateError.TheVariants as errors
@@ -63,8 +63,8 @@ abbrev pub changed_if_named : ℕ → FlagSets → Component → Component
 changed_if_named id change c = if nat_eq c.id id then record c { flags = with_change change c.flags } else c
 
 -- the flags of the component with this id are changed, after a break where a copy is under way; one generation more, and all else stays
-abbrev pub IsFlags : ℕ → FlagSets → Composite → Composite → Type 0
-IsFlags id change old new =
+abbrev pub IsFlagChange : ℕ → FlagSets → Composite → Composite → Type 0
+IsFlagChange id change old new =
     new ≡ record (unleased old) { generation = (unleased old).generation + 1; components = map (changed_if_named id change) old.components }
 
 -- the mirror of the component with this id

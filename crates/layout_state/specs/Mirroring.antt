@@ -1,12 +1,12 @@
 -- How mirrors come to a layout and go from it.
-use Rattle.std.specs.Prelude.{◌≡◌, ℕ, ◌+◌, ◌*◌, Bool, true, false, not, nat_eq, nat_lt, max, List, [], ◌∷◌, ◌++◌, length, map, filter, Option, Some, None, if◌then◌else◌}
-use Rattle.std.specs.List.{list_any, position_or_len, enumerate_from}
+use Rattle.std.specs.Prelude.{◌≡◌, ℕ, ◌+◌, ◌*◌, true, false, not, nat_eq, nat_lt, max, List, [], ◌∷◌, ◌++◌, length, map, filter, Option, Some, None, if◌then◌else◌}
+use Rattle.std.specs.List.{position_or_len, enumerate_from}
 use Rattle.composite_layout.specs.declared.component.Component.{Component}
 use Rattle.composite_layout.specs.declared.component.State.{State}
 use Rattle.composite_layout.specs.declared.component.State.TheVariants as states
 use Rattle.composite_layout.specs.declared.spec.MirrorSpec.{MirrorSpec}
 use Rattle.composite_layout.specs.Layouts.{Composite}
-use Rattle.composite_layout.specs.LookUps.{begins_mirror, has_mirror, mirror_ids, wholly_fresh}
+use Rattle.composite_layout.specs.LookUps.{begins_mirror, has_mirror, mirror_ids}
 use Rattle.composite_layout.specs.Making.{new_mirrors, part_count}
 use Rattle.layout_state.specs.Choosing.{has_fresh}
 use Rattle.layout_state.specs.declared.error.StateError.{StateError}

@@ -10,7 +10,7 @@ ghost use Rattle.composite_layout.specs.Layouts.{Composite, IsValid};
 ghost use Rattle.layout_state.specs.Choosing.{primary_of};
 ghost use Rattle.layout_state.specs.Keeping.{Stays, StaysStale};
 ghost use Rattle.layout_state.specs.Making.{all_objects, AreApart, AreNext, IsNewBetween, new_objects, new_targets, nexts_after, objects_on};
-ghost use Rattle.layout_state.specs.Marking.{flags_refusal, IsBegin, IsDone, IsFlags, IsIntent};
+ghost use Rattle.layout_state.specs.Marking.{flags_refusal, IsBegin, IsDone, IsFlagChange, IsIntent};
 
 /// After an intent to its primary a range is ready for its write.
 pub fn intent_readies()
@@ -28,7 +28,7 @@ pub fn marks_keep_valid()
     ensures flags { (id : ℕ) (change : FlagSets) (old new : Composite)
         → IsValid old
         → flags_refusal id change old.components ≡ None
-        → IsFlags id change old new → IsValid new }
+        → IsFlagChange id change old new → IsValid new }
     ensures begin { (ids : List ℕ) (file : ℕ) (nexts : List ℕ) (old new : Composite) (after : List ℕ)
         → IsValid old → AreNext nexts
         → IsBegin ids file nexts old new after → IsValid new }
@@ -43,7 +43,7 @@ pub fn components_stay()
     ensures done { (ids : List ℕ) (old new : Composite)
         → IsDone ids old new → AllZip Stays old.components new.components }
     ensures flags { (id : ℕ) (change : FlagSets) (old new : Composite)
-        → IsFlags id change old new → AllZip Stays old.components new.components }
+        → IsFlagChange id change old new → AllZip Stays old.components new.components }
     ensures begin { (ids : List ℕ) (file : ℕ) (nexts : List ℕ) (old new : Composite) (after : List ℕ)
         → IsBegin ids file nexts old new after → AllZip Stays old.components new.components }
     ensures intent { (range : Range) (mirror file : ℕ) (nexts : List ℕ) (old new : Composite) (after : List ℕ)
@@ -53,7 +53,7 @@ pub fn components_stay()
 /// What is stale stays so until a copy is done.
 pub fn stale_stays()
     ensures flags { (id : ℕ) (change : FlagSets) (old new : Composite)
-        → IsFlags id change old new → AllZip StaysStale old.components new.components }
+        → IsFlagChange id change old new → AllZip StaysStale old.components new.components }
     ensures begin { (ids : List ℕ) (file : ℕ) (nexts : List ℕ) (old new : Composite) (after : List ℕ)
         → IsBegin ids file nexts old new after → AllZip StaysStale old.components new.components }
     ensures intent { (range : Range) (mirror file : ℕ) (nexts : List ℕ) (old new : Composite) (after : List ℕ)
@@ -65,7 +65,7 @@ pub fn generation_grows()
     ensures done { (ids : List ℕ) (old new : Composite)
         → IsDone ids old new → old.generation < new.generation }
     ensures flags { (id : ℕ) (change : FlagSets) (old new : Composite)
-        → IsFlags id change old new → old.generation < new.generation }
+        → IsFlagChange id change old new → old.generation < new.generation }
     ensures begin { (ids : List ℕ) (file : ℕ) (nexts : List ℕ) (old new : Composite) (after : List ℕ)
         → IsBegin ids file nexts old new after → old.generation < new.generation }
     ensures intent { (range : Range) (mirror file : ℕ) (nexts : List ℕ) (old new : Composite) (after : List ℕ)

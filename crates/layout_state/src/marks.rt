@@ -4,7 +4,7 @@ ghost use Rattle.std.specs.List.{list_any};
 ghost use Rattle.composite_layout.specs.LookUps.{has_stale, mirror_ids};
 ghost use Rattle.composite_layout.specs.Making.{new_state};
 ghost use Rattle.layout_state.specs.Breaking.{unleased};
-ghost use Rattle.layout_state.specs.Marking.{changed_if_named, flags_refusal, fresh_if_named, IsDone, IsFlags, mirror_of, with_change};
+ghost use Rattle.layout_state.specs.Marking.{changed_if_named, flags_refusal, fresh_if_named, IsDone, IsFlagChange, mirror_of, with_change};
 
 use crate::error::StateError;
 use crate::leases::break_lease;
@@ -80,7 +80,7 @@ pub(crate) fn is_named(id: u32, ids: &[u32]) -> bool
 /// the last wholly fresh mirror stays so is this project's own.
 pub fn set_flags(layout: &mut Layout, id: u32, change: FlagChange) -> Result<(), StateError>
     requires generation { layout.old.generation + 2 < 2 ^ 32 }
-    ensures changed { OnOk result (IsFlags id change layout.old layout.new) }
+    ensures changed { OnOk result (IsFlagChange id change layout.old layout.new) }
     ensures refused { MatchResult result
         (λ _. flags_refusal id change layout.old.components ≡ None)
         (λ refusal. flags_refusal id change layout.old.components ≡ Some refusal) }

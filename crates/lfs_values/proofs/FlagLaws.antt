@@ -12,7 +12,7 @@ use Rattle.std.proofs.lemmas.List.Folds.{list_any-append}
 use Rattle.std.proofs.lemmas.Map.Keys.{IsDistinct-push, IsDistinct-head, IsDistinct-tail}
 use Rattle.std.proofs.lemmas.Slice.Eq.{bytes_eq-Decides}
 use denote.Ref.{Bor}
-use Rattle.composite_layout.specs.FlagChanges.{FlagSets, IsFlagChange}
+use Rattle.composite_layout.specs.FlagChanges.{FlagSets, AreFlagSets}
 use Rattle.flr_base.proofs.Reader.{SoFar}
 use Rattle.text_words.specs.Lists.{list_text}
 use Rattle.text_words.specs.Pieces.{parts_of, Lacks}
@@ -242,7 +242,7 @@ answer_again word (Err (stops.Word fault)) e change h = let one : Err fault ≡ 
 
 -- ---- what words make is a good change
 
-with_good : (change : FlagSets) (flag : FlagWord) → IsFlagChange change → is_named change flag ≡ false → IsFlagChange (with_word change flag)
+with_good : (change : FlagSets) (flag : FlagWord) → AreFlagSets change → is_named change flag ≡ false → AreFlagSets (with_word change flag)
 with_good c SetPrefer h e = record {
   init_set = h.init_set;
   init_clear = h.init_clear;
@@ -300,14 +300,14 @@ with_good c SetStale h e = record {
   nosync = h.nosync;
 }
 
-good_from : (before rest : List FlagWord) → IsFlagChange (change_of before) → Apart same_flag before rest → IsDistinct same_flag rest → IsFlagChange (change_of (before ++ rest))
+good_from : (before rest : List FlagWord) → AreFlagSets (change_of before) → Apart same_flag before rest → IsDistinct same_flag rest → AreFlagSets (change_of (before ++ rest))
 good_from before [] good apart differ = rw append-nil good
 good_from before (flag ∷ rest) good apart differ =
-    let next = subst IsFlagChange (with_is flag before) (with_good (change_of before) flag good (named_is flag before ∙ apart.0)) in
+    let next = subst AreFlagSets (with_is flag before) (with_good (change_of before) flag good (named_is flag before ∙ apart.0)) in
     let others = apart_push same_flag same_laws before flag rest apart.1 (IsDistinct-head same_flag flag rest differ) in
-    subst (λ (words : List FlagWord). IsFlagChange (change_of words)) (append_assoc before (flag ∷ []) rest) (good_from (before ++ flag ∷ []) rest next others (IsDistinct-tail same_flag flag rest differ))
+    subst (λ (words : List FlagWord). AreFlagSets (change_of words)) (append_assoc before (flag ∷ []) rest) (good_from (before ++ flag ∷ []) rest next others (IsDistinct-tail same_flag flag rest differ))
 
-pub change_good : (words : List FlagWord) → IsDistinct same_flag words → IsFlagChange (change_of words)
+pub change_good : (words : List FlagWord) → IsDistinct same_flag words → AreFlagSets (change_of words)
 change_good words differ = good_from [] words (record { init_set = refl; init_clear = refl; stale = refl; prefer = refl; offline = refl; nosync = refl }) (apart_none same_flag words) differ
 
 -- ---- the words of a change make it
@@ -322,7 +322,7 @@ any_of : (p : FlagWord → Bool) (c : FlagSets) → list_any p (words_of c)
 any_of p c = simp (list_any-append, any_only) refl
 
 -- what no word sets or clears is neither
-filled : (c : FlagSets) → IsFlagChange c →
+filled : (c : FlagSets) → AreFlagSets c →
     record {
       set = record { init = false; stale = c.set.stale; prefer = c.set.prefer; offline = c.set.offline; nosync = c.set.nosync };
       clear = record { init = false; stale = false; prefer = c.clear.prefer; offline = c.clear.offline; nosync = c.clear.nosync };
@@ -339,7 +339,7 @@ filled c h =
     } = rw (h.init_set, h.init_clear, h.stale) refl in
     whole
 
-words_back : (c : FlagSets) → IsFlagChange c → change_of (words_of c) ≡ c
+words_back : (c : FlagSets) → AreFlagSets c → change_of (words_of c) ≡ c
 words_back c h =
     let one : has SetPrefer (words_of c) ≡ c.set.prefer = any_of (is SetPrefer) c ∙ simp (and-true, and-false, or-false, false-or) refl in
     let two : has ClearPrefer (words_of c) ≡ c.clear.prefer = any_of (is ClearPrefer) c ∙ simp (and-true, and-false, or-false, false-or) refl in
@@ -359,7 +359,7 @@ other_false true b e f = absurd cc
 other_false false b e f = refl
 
 -- no two of them name the same flag
-words_differ : (c : FlagSets) → IsFlagChange c → IsDistinct same_flag (words_of c)
+words_differ : (c : FlagSets) → AreFlagSets c → IsDistinct same_flag (words_of c)
 words_differ c h =
     let one = only_more [] c.set.prefer SetPrefer (none_same same_flag) (λ e. refl) in
     let two = only_more _ c.clear.prefer ClearPrefer one (λ e. simp (any_only, and-true) (other_false c.set.prefer c.clear.prefer h.prefer e)) in
@@ -369,15 +369,15 @@ words_differ c h =
     let six = only_more _ c.clear.nosync ClearNosync five (λ e. simp (list_any-append, any_only, and-false, and-true) (other_false c.set.nosync c.clear.nosync h.nosync e)) in
     only_more _ c.set.stale SetStale six (λ e. simp (list_any-append, any_only, and-false) refl)
 
-some_words : (c : FlagSets) (words : List FlagWord) → IsFlagChange c → c ≢ no_change → words_of c ≡ words → 0 < length words
+some_words : (c : FlagSets) (words : List FlagWord) → AreFlagSets c → c ≢ no_change → words_of c ≡ words → 0 < length words
 some_words c [] h other e = absurd (other (sym (words_back c h) ∙ ap change_of e))
 some_words c (w ∷ ws) h other e = omega arith
 
 -- a change that isn't empty is spelled as it is printed
-pub printed_spells : (c : FlagSets) → IsFlagChange c → c ≢ no_change → SpellsFlags (flags_text c) c
+pub printed_spells : (c : FlagSets) → AreFlagSets c → c ≢ no_change → SpellsFlags (flags_text c) c
 printed_spells c h other = record { words = words_of c; some = some_words c (words_of c) h other refl; differ = words_differ c h; text = refl; change_is = sym (words_back c h) }
 
-pub flags_again : (c : FlagSets) → IsFlagChange c → c ≢ no_change → flags_of (flags_text c) ≡ Ok c
+pub flags_again : (c : FlagSets) → AreFlagSets c → c ≢ no_change → flags_of (flags_text c) ≡ Ok c
 flags_again c h other = flags_read (flags_text c) c (printed_spells c h other)
 
 -- a change that a word spells
@@ -388,8 +388,8 @@ spelled_other c (w ∷ ws) some e = λ z.
     let none : is_named c w ≡ false = ap (λ (d : FlagSets). is_named d w) z ∙ named_is w [] in
     let clash : true ≡ false = sym named ∙ none in absurd cc
 
-pub spelled_good : (word : List ℕ) (c : FlagSets) → SpellsFlags word c → IsFlagChange c × (c ≢ no_change)
-spelled_good word c h = (subst IsFlagChange (sym h.change_is) (change_good h.words h.differ), spelled_other c h.words h.some h.change_is)
+pub spelled_good : (word : List ℕ) (c : FlagSets) → SpellsFlags word c → AreFlagSets c × (c ≢ no_change)
+spelled_good word c h = (subst AreFlagSets (sym h.change_is) (change_good h.words h.differ), spelled_other c h.words h.some h.change_is)
 
 -- what is read is read again as it is printed
 pub flags_printed : (word : List ℕ) (c : FlagSets) → flags_of word ≡ Ok c → flags_of (flags_text c) ≡ Ok c

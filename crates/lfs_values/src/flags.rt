@@ -1,7 +1,7 @@
 //! Lists of flags that are set or cleared, as `--comp-flags=` has them.
 
 ghost use Rattle.std.specs.Prelude.{◌≡◌, ◌≢◌, ◌++◌, false, map, IfOk, OnOk, MatchResult};
-ghost use Rattle.composite_layout.specs.FlagChanges.{FlagSets, IsFlagChange};
+ghost use Rattle.composite_layout.specs.FlagChanges.{FlagSets, AreFlagSets};
 ghost use Rattle.lfs_values.specs.Answers.{Gives, IsNoMemory, IfWord};
 ghost use Rattle.lfs_values.specs.FlagLists.{flag_text, flag_word_of, is_named, with_word, no_change, only, words_of, change_by, flags_of, flags_text, SpellsFlags, IsFlagsFault};
 
@@ -195,7 +195,7 @@ fn put_word(out: &mut Vec<u8>, change: FlagChange) -> Result<(), NoMemory>
 /// those that are cleared, and `-` for no change. Without memory the text may have grown by a part of it.
 pub fn put_flags(out: &mut Vec<u8>, change: FlagChange) -> Result<(), NoMemory>
     ensures appended { OnOk result (out.new.items ≡ out.old.items ++ flags_text change) }
-    ensures spells { IsFlagChange change → change ≢ no_change → SpellsFlags (flags_text change) change }
+    ensures spells { AreFlagSets change → change ≢ no_change → SpellsFlags (flags_text change) change }
 {
     put_word(out, change)
 }

@@ -11,7 +11,7 @@ use Rattle.text_words.specs.Sizes.{size_of, end_of}
 use Rattle.flr_base.specs.Faults.{Begins}
 use Rattle.flr_base.proofs.Machine.{Reads}
 use Rattle.flr_base.proofs.Reader.{ok_step}
-use Rattle.composite_layout.specs.FlagChanges.{FlagSets, IsFlagChange}
+use Rattle.composite_layout.specs.FlagChanges.{FlagSets, AreFlagSets}
 use Rattle.lfs_values.proofs.FlagLaws.{flags_again}
 use Rattle.lfs_values.specs.Values.{stripe_size_of, stripe_count_of}
 use Rattle.lfs_values.specs.MirrorIds.{ids_of}
@@ -72,7 +72,7 @@ stale_change = record {
   clear = record { init = false; stale = false; prefer = false; offline = false; nosync = false };
 }
 
-stale_sets : IsFlagChange stale_change
+stale_sets : AreFlagSets stale_change
 stale_sets = record { init_set = refl; init_clear = refl; stale = refl; prefer = refl; offline = refl; nosync = refl }
 
 stale_differs : stale_change ≢ no_flags

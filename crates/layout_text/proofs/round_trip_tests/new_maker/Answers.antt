@@ -1,5 +1,5 @@
 -- The next numbers of a new maker are 1.
-use Rattle.std.proofs.Common.{ℕ, zero, suc, ◌-◌, ◌^◌, ◌<◌, [], ◌∷◌, get_or, subst, sym, arith}
+use Rattle.std.proofs.Common.{ℕ, zero, suc, ◌-◌, ◌^◌, ◌<◌, [], ◌∷◌, get_or, arith}
 use Rattle.std.proofs.lemmas.Result.{IfOk-weaker}
 use Rattle.layout_text.proofs.round_trip_tests.new_maker.Goals as goal
 
