@@ -1,7 +1,9 @@
 pub mod PrintLaws
 pub mod WordLaws
 pub mod Coming
+pub mod Lasting
 pub mod OneSpellings
 pub mod LineTexts
+pub mod HeadLaws
 pub mod ReadLaws
 pub mod Held
