@@ -1,5 +1,5 @@
 -- Each line spells one record, both ways.
-use Rattle.std.proofs.Common.{◌≡◌, ℕ, ◌^◌, ◌<◌, ◌≤◌, true, eqb, List, [], ◌∷◌, ◌++◌, length, Option, Some, None, refl, sym, ap, ◌∙◌, append_assoc, arith}
+use Rattle.std.proofs.Common.{◌≡◌, ℕ, ◌^◌, ◌<◌, eqb, List, [], ◌∷◌, ◌++◌, length, Option, Some, None, refl, sym, ap, ◌∙◌, append_assoc, arith}
 use Rattle.std.specs.Prelude.{codes, option_and_then}
 use Rattle.std.specs.Option.{option_map}
 use Rattle.std.specs.List.{join_with_byte, AllByRecursion}
@@ -16,19 +16,21 @@ use Rattle.flr_base.proofs.Spelled.{OneSpelling}
 use Rattle.text_words.specs.Items.{object_text, object_of, IsObjectItem}
 use Rattle.text_words.specs.Lists.{list_of, list_text}
 use Rattle.text_words.specs.Numbers.{number_from}
-use Rattle.text_words.specs.Pieces.{Lacks, AllLack, parts_of}
+use Rattle.text_words.specs.Pieces.{parts_of}
 use Rattle.text_words.specs.Sizes.{end_text}
 use Rattle.text_words.proofs.Spellings.{from_again}
-use Rattle.text_words.proofs.Splits.{parts-joined, Lacks-append}
+use Rattle.text_words.specs.Words.{AreWords, spaced}
+use Rattle.text_words.proofs.WordTexts.{parts_of-spaced}
 use Rattle.composite_layout.specs.declared.component.Component.{Component}
 use Rattle.composite_layout.specs.declared.component.Flags.{Flags}
 use Rattle.composite_layout.specs.declared.component.State.{State}
 use Rattle.layout_text.specs.declared.line.Head.{Head}
 use Rattle.layout_text.specs.declared.line.Line.{Line}
 use Rattle.layout_text.specs.declared.line.Line.TheVariants as lines
-use Rattle.layout_text.specs.Texts.{spaced, state_word, flags_word, component_words}
+use Rattle.layout_text.specs.Texts.{state_word, flags_word, component_words}
 use Rattle.layout_text.specs.LineWords.{state_of, flags_of, end_of, number_32, value, behind, field, front_of, numbers_of, counts_of, head_from, head_of_words, ids_of, extent_of, stripe_of, shape_of, last_of, objects_of, component_from, component_of, line_from, line_of}
-use Rattle.layout_text.proofs.OneSpellings.{number_32_takes, number_32_again, number_takes, end_takes, end_again, state_takes, state_again, flags_take, flags_again, objects_take, objects_again, no_more, clear, clear_lacks, decimal_clear, end_clear, state_clear, flags_clear, objects_clear}
+use Rattle.layout_text.proofs.WordLaws.{head_words_by, component_words_words}
+use Rattle.layout_text.proofs.OneSpellings.{number_32_takes, number_32_again, number_takes, end_takes, end_again, state_takes, state_again, flags_take, flags_again, objects_take, objects_again, no_more}
 
 -- the words of the head line
 abbrev pub head_line_words : Head → List (List ℕ)
@@ -322,37 +324,14 @@ line_takes x None e = absurd cc
 line_takes x (Some text) e =
     ap (λ (t : List ℕ). Some t) (sym (join_with_byte-slice_split 32 text) ∙ ap (join_with_byte 32) (line_by (parts_of 32 text) x (head_of_words (parts_of 32 text)) refl e))
 
--- no word has a space or a byte below it
-abbrev AllClear : Words → Type 0
-AllClear words = AllByRecursion (λ word. clear word ≡ true) words
-
-all_lack : (sep : ℕ) (words : Words) → sep ≤ 32 → AllClear words → AllLack sep words
-all_lack sep [] low all = tt
-all_lack sep (w ∷ ws) low all = (clear_lacks sep w low all.0, all_lack sep ws low all.1)
-
-head_clear : (h : Head) → IsHeldHead h → AllClear (head_line_words h)
-head_clear h k =
-    let g = k.generation in
-    let m = k.mirror in
-    let q = k.counter in
-    let n = k.count in
-    (refl, (refl, ((decimal_clear h.generation (omega (arith, g))), (refl, ((state_clear h.state), (refl, ((decimal_clear h.next_mirror (omega (arith, m))), ((decimal_clear h.next_counter (omega (arith, q))), (refl, ((decimal_clear h.count (omega (arith, n))), tt))))))))))
-
-component_clear : (c : Component) → IsHeld c → AllClear (component_words c)
-component_clear c k =
-    let i = k.id in
-    let m = k.mirror in
-    let n = k.count in
-    (refl, ((decimal_clear c.id (omega (arith, i))), (refl, ((decimal_clear c.mirror (omega (arith, m))), (refl, ((flags_clear c.flags), (refl, ((decimal_clear c.extent.start k.start), ((end_clear c.extent.end k.end), (refl, ((decimal_clear c.stripe.size k.size), (refl, ((decimal_clear c.stripe.count (omega (arith, n))), (refl, ((objects_clear c.objects k.objects), tt)))))))))))))))
-
-line_clear : (x : Line) → IsHeldLine x → AllClear (line_words x)
-line_clear (lines.Head h) k = head_clear h k
-line_clear (lines.Component c) k = component_clear c k
+line_words_words : (x : Line) → AreWords (line_words x)
+line_words_words (lines.Head h) = head_words_by h.generation h.state h.next_mirror h.next_counter h.count
+line_words_words (lines.Component c) = component_words_words c
 
 -- the words come apart again
-line_parts : (x : Line) → IsHeldLine x → parts_of 32 (spaced (line_words x)) ≡ line_words x
-line_parts (lines.Head h) k = let all = all_lack 32 (head_line_words h) (omega arith) (head_clear h k) in parts-joined 32 _ _ all.0 all.1
-line_parts (lines.Component c) k = let all = all_lack 32 (component_words c) (omega arith) (component_clear c k) in parts-joined 32 _ _ all.0 all.1
+line_parts : (x : Line) → parts_of 32 (spaced (line_words x)) ≡ line_words x
+line_parts (lines.Head h) = parts_of-spaced _ _ (line_words_words (lines.Head h))
+line_parts (lines.Component c) = parts_of-spaced _ _ (line_words_words (lines.Component c))
 
 -- no component's line is a head line
 no_head : (c : Component) → head_of_words (component_words c) ≡ None
@@ -367,16 +346,7 @@ words_again (lines.Head h) k = ap (λ (o : Option Head). line_from o (head_line_
 words_again (lines.Component c) k = component_line_again (component_words c) c (no_head c) (component_again c k)
 
 line_again : (x : Line) → IsHeldLine x → line_of (print x) ≡ Some x
-line_again x k = ap (λ (ws : Words). line_from (head_of_words ws) ws) (line_parts x k) ∙ words_again x k
+line_again x k = ap (λ (ws : Words). line_from (head_of_words ws) ws) (line_parts x) ∙ words_again x k
 
 pub one_spelling : OneSpelling line_of print IsHeldLine
 one_spelling = record { takes = line_takes; again = line_again }
-
--- no line has byte 10
-join_lacks : (words : Words) → AllLack 10 words → Lacks 10 (spaced words)
-join_lacks [] all = tt
-join_lacks (w ∷ []) all = all.0
-join_lacks (w ∷ v ∷ ws) all = Lacks-append 10 w (32 ∷ spaced (v ∷ ws)) all.0 (refl, join_lacks (v ∷ ws) all.1)
-
-pub line_lacks : (x : Line) → IsHeldLine x → Lacks 10 (spaced (line_words x))
-line_lacks x k = join_lacks (line_words x) (all_lack 10 (line_words x) (omega arith) (line_clear x k))

@@ -1,13 +1,11 @@
 -- Each word of a line spells one thing, both ways.
-use Rattle.std.proofs.Common.{◌≡◌, ℕ, ◌+◌, ◌^◌, ◌%◌, ◌<◌, ◌≤◌, Bool, true, false, cond, eqb, ltb, List, [], ◌∷◌, ◌++◌, length, Some, None, refl, sym, ap, subst, ◌∙◌, append_assoc, arith}
+use Rattle.std.proofs.Common.{◌≡◌, ℕ, ◌^◌, ◌<◌, ◌≤◌, Bool, true, false, cond, eqb, List, [], ◌∷◌, ◌++◌, length, Some, None, refl, sym, ap, subst, ◌∙◌, append_assoc, arith}
 use Rattle.std.specs.Prelude.{codes}
-use Rattle.std.specs.List.{flat_map, list_all, join_with_byte, AllByRecursion}
+use Rattle.std.specs.List.{join_with_byte, AllByRecursion}
 use Rattle.std.specs.Str.{bytes_eq}
 use Rattle.std.specs.Fmt.{decimal}
-use Rattle.std.proofs.lemmas.Bool.{cond_both, and_parts, and_from, eqb-true, eqb-false, eq-eqb, ne_eqb, ltb-true, lt-ltb, false_from_ne_true}
-use Rattle.std.proofs.lemmas.Fmt.{decimal_by_steps}
+use Rattle.std.proofs.lemmas.Bool.{cond_both, eqb-true, eqb-false, eq-eqb, ne_eqb, false_from_ne_true}
 use Rattle.std.proofs.lemmas.List.{append-nil}
-use Rattle.std.proofs.lemmas.List.Folds.{list_all-append}
 use Rattle.std.proofs.lemmas.List.Splits.{join_with_byte-slice_split, length-slice_split}
 use Rattle.std.proofs.lemmas.Slice.Eq.{bytes_eq-Decides}
 use Rattle.flr_base.specs.declared.reply.ObjectId.{ObjectId}
@@ -182,77 +180,3 @@ objects_take word objects e = ((list_spelled object_one_word word objects).0 e).
 
 pub objects_again : (objects : List ObjectId) → AllByRecursion IsObjectItem objects → list_of object_of (list_text object_text objects) ≡ Some objects
 objects_again objects all = (list_spelled object_one_word (list_text object_text objects) objects).1 (all, refl)
-
--- ---- no word has a space or a byte below it
-
-abbrev pub clear : List ℕ → Bool
-clear text = list_all (λ byte. ltb 32 byte) text
-
-pub clear_lacks : (sep : ℕ) (text : List ℕ) → sep ≤ 32 → clear text ≡ true → Lacks sep text
-clear_lacks sep [] low e = tt
-clear_lacks sep (c ∷ cs) low e = let p = and_parts (ltb 32 c) (clear cs) e in let above = ltb-true 32 c p.0 in (ne_eqb c sep (λ x. omega (arith, x, above, low)), clear_lacks sep cs low p.1)
-
-pub clear_append : (xs ys : List ℕ) → clear xs ≡ true → clear ys ≡ true → clear (xs ++ ys) ≡ true
-clear_append xs ys a b = list_all-append (λ byte. ltb 32 byte) xs ys ∙ and_from (clear xs) (clear ys) a b
-
-pub decimal_clear : (n : ℕ) → n < 2 ^ 64 → clear (decimal n) ≡ true
-decimal_clear n lt =
-    decimal_by_steps (λ m ds. clear ds ≡ true) (λ m h. and_from _ _ (lt-ltb 32 (48 + m) (omega arith)) refl)
-    (λ m ds h ih. clear_append ds ((48 + m % 10) ∷ []) ih (and_from _ _ (lt-ltb 32 (48 + m % 10) (omega arith)) refl)) n lt
-
-pub end_clear : (n : ℕ) → n < 2 ^ 64 → clear (end_text (codes "EOF") n) ≡ true
-end_clear n lt = cond_both (eqb n 18446744073709551615) (codes "EOF") (decimal n) (λ w. clear w ≡ true) (λ t. refl) (λ t. decimal_clear n lt)
-
-pub state_clear : (s : State) → clear (state_word s) ≡ true
-state_clear states.Single = refl
-state_clear states.ReadOnly = refl
-state_clear states.WritePending = refl
-state_clear states.SyncPending = refl
-
-flags_clear_by : (a b c d e : Bool) → clear (flags_word (record { init = a; stale = b; prefer = c; offline = d; nosync = e })) ≡ true
-flags_clear_by true true true true true = refl
-flags_clear_by true true true true false = refl
-flags_clear_by true true true false true = refl
-flags_clear_by true true true false false = refl
-flags_clear_by true true false true true = refl
-flags_clear_by true true false true false = refl
-flags_clear_by true true false false true = refl
-flags_clear_by true true false false false = refl
-flags_clear_by true false true true true = refl
-flags_clear_by true false true true false = refl
-flags_clear_by true false true false true = refl
-flags_clear_by true false true false false = refl
-flags_clear_by true false false true true = refl
-flags_clear_by true false false true false = refl
-flags_clear_by true false false false true = refl
-flags_clear_by true false false false false = refl
-flags_clear_by false true true true true = refl
-flags_clear_by false true true true false = refl
-flags_clear_by false true true false true = refl
-flags_clear_by false true true false false = refl
-flags_clear_by false true false true true = refl
-flags_clear_by false true false true false = refl
-flags_clear_by false true false false true = refl
-flags_clear_by false true false false false = refl
-flags_clear_by false false true true true = refl
-flags_clear_by false false true true false = refl
-flags_clear_by false false true false true = refl
-flags_clear_by false false true false false = refl
-flags_clear_by false false false true true = refl
-flags_clear_by false false false true false = refl
-flags_clear_by false false false false true = refl
-flags_clear_by false false false false false = refl
-
-pub flags_clear : (f : Flags) → clear (flags_word f) ≡ true
-flags_clear f = flags_clear_by f.init f.stale f.prefer f.offline f.nosync
-
-object_clear : (o : ObjectId) → IsObjectItem o → clear (object_text o) ≡ true
-object_clear o h = clear_append (decimal o.target) (46 ∷ decimal o.number) (decimal_clear o.target (let low = h.0 in omega (arith, low))) (decimal_clear o.number (let low = h.1 in omega (arith, low)))
-
-more_clear : (os : List ObjectId) → AllByRecursion IsObjectItem os → clear (flat_map (λ next. 44 ∷ object_text next) os) ≡ true
-more_clear [] all = refl
-more_clear (o ∷ os) all = clear_append (object_text o) (flat_map (λ next. 44 ∷ object_text next) os) (object_clear o all.0) (more_clear os all.1)
-
-pub objects_clear : (os : List ObjectId) → AllByRecursion IsObjectItem os → clear (list_text object_text os) ≡ true
-objects_clear [] all = refl
-objects_clear (o ∷ os) all = clear_append (object_text o) (flat_map (λ next. 44 ∷ object_text next) os) (object_clear o all.0) (more_clear os all.1)

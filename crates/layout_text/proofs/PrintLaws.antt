@@ -2,7 +2,7 @@
 use Rattle.std.proofs.Common.{◌≡◌, ℕ, List, [], ◌∷◌, ◌++◌, sym, ap, ◌∙◌}
 use Rattle.std.proofs.lemmas.List.{append_assoc, append-nil}
 use Rattle.std.proofs.lemmas.Grind.{flat_map-append}
-use Rattle.layout_text.specs.Texts.{spaced}
+use Rattle.text_words.specs.Words.{spaced}
 use Rattle.layout_text.specs.Appending.{text_behind}
 
 -- a space stands between each two words where one stands before each further word

@@ -13,8 +13,7 @@ use Rattle.flr_base.proofs.Residual.{Residual, Leads, residual_reads}
 use Rattle.flr_base.proofs.Spelled.{Spelled, line_by, line_step, line_reads}
 use Rattle.text_words.specs.Items.{IsObjectItem}
 use Rattle.text_words.specs.Lines.{lines_of, unended}
-use Rattle.text_words.specs.Pieces.{AllLack}
-use Rattle.text_words.proofs.LineLaws.{lines-text, text-lines}
+use Rattle.text_words.proofs.LineLaws.{text-lines}
 use Rattle.composite_layout.specs.declared.component.Component.{Component}
 use Rattle.composite_layout.specs.declared.component.State.TheVariants as states
 use Rattle.composite_layout.specs.Layouts.{eof, Composite, Mirror, Tiles, AreOf, Ascend, parts_of, IsShaped, IsObject}
@@ -34,7 +33,8 @@ use Rattle.layout_text.specs.Spelling.{IsSpellable, Spells, AreLines, IsFault, I
 use Rattle.layout_text.specs.Viable.{head_of, component, layout_lines, AreLayout, can_go_on, fits, moved, begin, is_good, State, going, next, stated, step, IsSmall, layout_of, complete}
 use Rattle.layout_text.proofs.Coming.{CanGoOn, from_test, to_test, Rest, alive, from_fits, to_fits, back, on, moved_end, fits_left}
 use Rattle.layout_text.proofs.Lasting.{Keeps, keeps, lives, moved_left, moved_head, ended}
-use Rattle.layout_text.proofs.LineTexts.{print, IsHeld, IsHeldHead, IsHeldLine, one_spelling, line_lacks}
+use Rattle.layout_text.proofs.LineTexts.{print, IsHeld, IsHeldHead, IsHeldLine, one_spelling}
+use Rattle.layout_text.proofs.WordLaws.{lines_of-layout}
 use Rattle.layout_text.proofs.HeadLaws.{HasSmall, into, few, good, from_good, out, begins}
 
 -- ---- the machine over records
@@ -338,12 +338,8 @@ found ys p seen e none =
 
 -- ---- the text and its lines
 
-parts_lack : (cs : List Component) → AllByRecursion IsHeld cs → AllLack 10 (map component_line cs)
-parts_lack [] all = tt
-parts_lack (c ∷ cs) all = (line_lacks (lines.Component c) all.0, parts_lack cs all.1)
-
 lines_of_text : (text : List ℕ) (l : Composite) → Spells text l → lines_of text ≡ map print (layout_lines l)
-lines_of_text text l (s, e) = ap lines_of e ∙ lines-text (head_line l ∷ map component_line l.components) (line_lacks (lines.Head (head_of l)) (held_head l s), parts_lack l.components (held_components l s)) ∙ sym (printed l)
+lines_of_text text l (s, e) = ap lines_of e ∙ lines_of-layout l ∙ sym (printed l)
 
 text_of_lines : (text : List ℕ) (l : Composite) → lines_of text ≡ map print (layout_lines l) → text ≡ text_of_layout l
 text_of_lines text l e = text-lines text (head_line l ∷ map component_line l.components) (e ∙ printed l)

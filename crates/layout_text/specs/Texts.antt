@@ -6,15 +6,12 @@ use Rattle.text_words.specs.Items.{object_text}
 use Rattle.text_words.specs.Lines.{text_of}
 use Rattle.text_words.specs.Lists.{list_text}
 use Rattle.text_words.specs.Sizes.{end_text}
+use Rattle.text_words.specs.Words.{spaced}
 use Rattle.composite_layout.specs.declared.component.Component.{Component}
 use Rattle.composite_layout.specs.declared.component.Flags.{Flags}
 use Rattle.composite_layout.specs.declared.component.State.{State}
 use Rattle.composite_layout.specs.declared.component.State.TheVariants as states
 use Rattle.composite_layout.specs.Layouts.{Composite}
-
--- the words with one space between each two
-abbrev pub spaced : List (List ℕ) → List ℕ
-spaced words = join_with_byte 32 words
 
 -- the word of a state
 abbrev pub state_word : State → List ℕ

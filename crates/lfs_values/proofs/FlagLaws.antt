@@ -16,6 +16,9 @@ use Rattle.composite_layout.specs.FlagChanges.{FlagSets, AreFlagSets}
 use Rattle.flr_base.proofs.Reader.{SoFar}
 use Rattle.text_words.specs.Lists.{list_text}
 use Rattle.text_words.specs.Pieces.{parts_of, Lacks}
+use Rattle.text_words.specs.Words.{IsWord}
+use Rattle.text_words.proofs.ListTexts.{parts_text, text_parts}
+use Rattle.text_words.proofs.WordTexts.{list_word}
 use Rattle.lfs_values.specs.Answers.{Gives, IsNoMemory, IfWord}
 use Rattle.lfs_values.specs.DistinctItems.{with_item, items_of}
 use Rattle.lfs_values.specs.FlagLists.{flag_text, flag_word_of, name_of, same_flag, has, change_of, SpellsFlags, changed, change_by, flags_of, IsFlagsFault, is_named, with_word, no_change, only, words_of, flags_text}
@@ -25,7 +28,7 @@ use Rattle.lfs_values.specs.declared.cause.Stop.{Stop}
 use Rattle.lfs_values.specs.declared.cause.Stop.TheVariants as stops
 use Rattle.lfs_values.specs.declared.flags.FlagWord.{FlagWord}
 use Rattle.lfs_values.specs.declared.flags.FlagWord.TheVariants.{SetPrefer, ClearPrefer, SetOffline, ClearOffline, SetNosync, ClearNosync, SetStale}
-use Rattle.lfs_values.proofs.ItemLaws.{plain, item_none, item_twice, item_more, items_end, items_takes, items_again, items_fault, Apart, apart_push, apart_none, none_same, printed, reread, all_lack, parts_text, text_parts}
+use Rattle.lfs_values.proofs.ItemLaws.{plain, item_none, item_twice, item_more, items_end, items_takes, items_again, items_fault, Apart, apart_push, apart_none, none_same, printed, reread, all_lack}
 
 pub same_laws : IsEquivalence same_flag
 same_laws = on_texts_equal name_of
@@ -394,3 +397,17 @@ spelled_good word c h = (subst AreFlagSets (sym h.change_is) (change_good h.word
 -- what is read is read again as it is printed
 pub flags_printed : (word : List ℕ) (c : FlagSets) → flags_of word ≡ Ok c → flags_of (flags_text c) ≡ Ok c
 flags_printed word c e = let g = spelled_good word c (flags_takes word c e) in flags_again c g.0 g.1
+
+-- ---- a change is one word
+
+flag_word : (flag : FlagWord) → IsWord (flag_text flag)
+flag_word SetPrefer = refl
+flag_word ClearPrefer = refl
+flag_word SetOffline = refl
+flag_word ClearOffline = refl
+flag_word SetNosync = refl
+flag_word ClearNosync = refl
+flag_word SetStale = refl
+
+pub flags_word : (c : FlagSets) → IsWord (flags_text c)
+flags_word c = list_word flag_text (words_of c) flag_word

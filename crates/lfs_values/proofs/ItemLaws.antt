@@ -1,19 +1,15 @@
 -- Lists of different items, both ways, and the first fault.
-use Rattle.std.proofs.Common.{◌≡◌, ℕ, ◌+◌, ◌<◌, ◌≤◌, get_or, Bool, true, false, eqb, not, List, [], ◌∷◌, ◌++◌, length, map, Option, Some, None, Result, Ok, Err, refl, sym, ap, subst, ◌∙◌, append_assoc, arith, inl, inr}
-use Rattle.std.specs.List.{list_any, IsDistinct, AllByRecursion, join_with_byte, count_by}
+use Rattle.std.proofs.Common.{◌≡◌, ℕ, ◌+◌, ◌<◌, ◌≤◌, get_or, Bool, true, false, not, List, [], ◌∷◌, ◌++◌, length, map, Option, Some, None, Result, Ok, Err, refl, sym, ap, subst, ◌∙◌, append_assoc, inl, inr}
+use Rattle.std.specs.List.{list_any, IsDistinct, AllByRecursion}
 use Rattle.std.specs.Cmp.{IsEquivalence}
 use Rattle.std.proofs.lemmas.Bool.{cond_both}
 use Rattle.std.proofs.lemmas.List.{append-nil, length-map}
 use Rattle.std.proofs.lemmas.List.Folds.{list_any-append}
-use Rattle.std.proofs.lemmas.List.Concat.{flat_map-cons}
-use Rattle.std.proofs.lemmas.List.Splits.{join_with_byte-slice_split, length-slice_split}
 use Rattle.std.proofs.lemmas.Map.Keys.{IsDistinct-push, IsDistinct-head, IsDistinct-tail}
 use Rattle.flr_base.specs.Reading.{after, reads}
 use Rattle.flr_base.proofs.Reader.{SoFar, piece_more, piece_fault, so_far_end}
 use denote.Ref.{Bor}
-use Rattle.text_words.specs.Pieces.{parts_of, Lacks, AllLack}
-use Rattle.text_words.specs.Lists.{list_text}
-use Rattle.text_words.proofs.Splits.{parts-joined}
+use Rattle.text_words.specs.Pieces.{Lacks, AllLack}
 use Rattle.lfs_values.specs.DistinctItems.{with_found, with_item, placeless, items_of, IsItemFault, IsFirstItemFault}
 use Rattle.lfs_values.specs.declared.cause.Fault.{Fault}
 use Rattle.lfs_values.specs.declared.cause.Fault.TheVariants as faults
@@ -192,7 +188,7 @@ module _ {A : Type 0} (same : A → A → Bool) (laws : IsEquivalence same) (bad
         first = f.first;
       }
 
--- ---- the words of the items, and the text that they are joined to
+-- ---- the words of the items
 
 module _ {A : Type 0} (read : List ℕ → Option A) (print : A → List ℕ) where
   pub printed : ((word : List ℕ) (item : A) → read word ≡ Some item → word ≡ print item) → (words : List (List ℕ)) (all : List A) → map read words ≡ map (λ item. Some item) all → words ≡ map print all
@@ -219,23 +215,6 @@ module _ {A : Type 0} (read : List ℕ → Option A) (print : A → List ℕ) wh
   pub all_lack : (P : A → Type 0) → ((item : A) → P item → Lacks 44 (print item)) → (all : List A) → AllByRecursion P all → AllLack 44 (map print all)
   all_lack P lacks [] h = tt
   all_lack P lacks (x ∷ xs) h = (lacks x h.0, all_lack P lacks xs h.1)
-
-joined : {A : Type 0} (print : A → List ℕ) (x : A) (xs : List A) → join_with_byte 44 (map print (x ∷ xs)) ≡ list_text print (x ∷ xs)
-joined print x [] = sym (append-nil (print x))
-joined {A} print x (y ∷ ys) =
-    ap (λ (t : List ℕ). print x ++ 44 ∷ t) (joined print y ys) ∙ ap (λ (t : List ℕ). print x ++ t) (sym (flat_map-cons (λ (next : A). 44 ∷ print next) y ys))
-
--- a text is parted into the words of its items
-pub parts_text : {A : Type 0} (print : A → List ℕ) (all : List A) → 0 < length all → AllLack 44 (map print all) → parts_of 44 (list_text print all) ≡ map print all
-parts_text print [] some h = absurd (omega arith)
-parts_text print (x ∷ xs) some h = ap (parts_of 44) (sym (joined print x xs)) ∙ parts-joined 44 (print x) (map print xs) h.0 h.1
-
--- and a word that is parted so is their text
-pub text_parts : {A : Type 0} (print : A → List ℕ) (word : List ℕ) (all : List A) → parts_of 44 word ≡ map print all → (0 < length all) × (word ≡ list_text print all)
-text_parts print word [] e =
-    let n : length (parts_of 44 word) ≡ count_by (λ (b : ℕ). eqb b 44) word + 1 = length-slice_split (λ (b : ℕ). eqb b 44) word in
-    let z : length (parts_of 44 word) ≡ 0 = ap (λ (ws : List (List ℕ)). length ws) e in absurd (omega arith)
-text_parts print word (x ∷ xs) e = (omega arith, sym (join_with_byte-slice_split 44 word) ∙ ap (join_with_byte 44) e ∙ joined print x xs)
 
 -- ---- what an insert into a set says
 

@@ -7,12 +7,13 @@ use Rattle.text_words.specs.Numbers.{number_from}
 use Rattle.text_words.specs.Pieces.{parts_of}
 use Rattle.text_words.proofs.Spellings.{from_takes, from_again}
 use Rattle.text_words.proofs.Splits.{decimal_lacks}
+use Rattle.text_words.proofs.ListTexts.{parts_text, text_parts}
 use Rattle.lfs_values.specs.Answers.{Gives, IsNoMemory, IfWord}
 use Rattle.lfs_values.specs.MirrorIds.{IsMirrorId, AreMirrorIds, ids_text, ids_of, IsIdsFault}
 use Rattle.lfs_values.specs.declared.cause.Fault.TheVariants as faults
 use Rattle.lfs_values.specs.declared.cause.Stop.{Stop}
 use Rattle.lfs_values.specs.declared.cause.Stop.TheVariants as stops
-use Rattle.lfs_values.proofs.ItemLaws.{items_takes, items_again, items_fault, printed, each_is, reread, all_lack, parts_text, text_parts}
+use Rattle.lfs_values.proofs.ItemLaws.{items_takes, items_again, items_fault, printed, each_is, reread, all_lack}
 
 -- what is read is spelled so
 pub ids_takes : (word : List ℕ) (ids : List ℕ) → ids_of word ≡ Ok ids → AreMirrorIds ids × (word ≡ ids_text ids)

@@ -10,3 +10,4 @@ pub mod Saying
 pub mod Printed
 pub mod PrintedParts
 pub mod PrintedSpecs
+pub mod Apart

@@ -3,6 +3,7 @@ use Rattle.std.specs.Prelude.{ℕ, ℤ, Bool, if◌then◌else◌, List, [], ◌
 use Rattle.std.specs.Fmt.{decimal, signed_decimal}
 use Rattle.std.specs.List.{flat_map}
 use Rattle.text_words.specs.Sizes.{end_text}
+use Rattle.text_words.specs.Words.{spaced}
 use Rattle.lfs_values.specs.MirrorIds.{ids_text}
 use Rattle.lfs_values.specs.FlagLists.{flags_text}
 use Rattle.composite_layout.specs.FlagChanges.{FlagSets}
@@ -71,15 +72,10 @@ words_after_lfs (commands.Verify name) = codes "mirror" ∷ codes "verify" ∷ n
 abbrev pub words_of_command : LfsCommand → List (List ℕ)
 words_of_command command = codes "lfs" ∷ words_after_lfs command
 
--- one space before each word
-abbrev pub spaced : List (List ℕ) → List ℕ
-spaced words = flat_map (λ word. 32 ∷ word) words
-
--- one space between words
-abbrev pub line_of : List (List ℕ) → List ℕ
-line_of [] = []
-line_of (word ∷ words) = word ++ spaced words
+-- each word behind a space
+abbrev pub after_spaces : List (List ℕ) → List ℕ
+after_spaces words = flat_map (λ word. 32 ∷ word) words
 
 -- the printed text of a command
 abbrev pub text_of_command : LfsCommand → List ℕ
-text_of_command command = line_of (words_of_command command)
+text_of_command command = spaced (words_of_command command)

@@ -10,6 +10,7 @@ mod options;
 mod parts;
 mod print;
 mod read;
+mod round_trip;
 mod stands;
 mod step;
 mod takes;
@@ -17,6 +18,7 @@ mod takes;
 pub use command::{LfsCommand, SplitTo};
 pub use print::{print_lfs, printed_spells};
 pub use read::read_lfs;
+pub use round_trip::through_text;
 
 #[cfg(test)]
 mod tests;

@@ -3,7 +3,7 @@
 ghost use Rattle.std.specs.Prelude.{◌≡◌, ◌++◌, ◌∷◌, [], OnOk, codes};
 ghost use Rattle.std.specs.Fmt.{decimal};
 ghost use Rattle.std.specs.List.{flat_map};
-ghost use Rattle.lfs_words.specs.Printing.{spaced, end_words, count_words, part_words, prefer_words, mirror_words, only_words, to_words, comp_flags_word};
+ghost use Rattle.lfs_words.specs.Printing.{after_spaces, end_words, count_words, part_words, prefer_words, mirror_words, only_words, to_words, comp_flags_word};
 
 use crate::command::SplitTo;
 use composite_layout::{FlagChange, MirrorSpec, Part, Spec};
@@ -13,7 +13,7 @@ use text_words::{put_end_value, put_number, put_word};
 
 /// Appends two words.
 pub(crate) fn put_words(out: &mut Vec<u8>, first: &[u8], second: &[u8]) -> Result<(), NoMemory>
-    ensures { OnOk result (out.new.items ≡ out.old.items ++ spaced (first.now ∷ second.now ∷ [])) }
+    ensures { OnOk result (out.new.items ≡ out.old.items ++ after_spaces (first.now ∷ second.now ∷ [])) }
 {
     put_word(out, first)?;
     put_word(out, second)
@@ -21,21 +21,21 @@ pub(crate) fn put_words(out: &mut Vec<u8>, first: &[u8], second: &[u8]) -> Resul
 
 /// Appends a file's name.
 pub(crate) fn put_file(out: &mut Vec<u8>, name: &Name) -> Result<(), NoMemory>
-    ensures { OnOk result (out.new.items ≡ out.old.items ++ spaced (name.now ∷ [])) }
+    ensures { OnOk result (out.new.items ≡ out.old.items ++ after_spaces (name.now ∷ [])) }
 {
     put_word(out, name.as_slice())
 }
 
 /// Appends an option whose value is a number.
 pub(crate) fn put_option(out: &mut Vec<u8>, option: &[u8], value: u64) -> Result<(), NoMemory>
-    ensures { OnOk result (out.new.items ≡ out.old.items ++ spaced (option.now ∷ decimal value ∷ [])) }
+    ensures { OnOk result (out.new.items ≡ out.old.items ++ after_spaces (option.now ∷ decimal value ∷ [])) }
 {
     put_word(out, option)?;
     put_number(out, value)
 }
 
 fn put_end(out: &mut Vec<u8>, end: u64) -> Result<(), NoMemory>
-    ensures { OnOk result (out.new.items ≡ out.old.items ++ spaced (end_words end)) }
+    ensures { OnOk result (out.new.items ≡ out.old.items ++ after_spaces (end_words end)) }
 {
     put_word(out, b"-E")?;
     out.push(b' ')?;
@@ -43,7 +43,7 @@ fn put_end(out: &mut Vec<u8>, end: u64) -> Result<(), NoMemory>
 }
 
 fn put_count(out: &mut Vec<u8>, count: i32) -> Result<(), NoMemory>
-    ensures { OnOk result (out.new.items ≡ out.old.items ++ spaced (count_words count)) }
+    ensures { OnOk result (out.new.items ≡ out.old.items ++ after_spaces (count_words count)) }
 {
     put_word(out, b"-c")?;
     out.push(b' ')?;
@@ -51,7 +51,7 @@ fn put_count(out: &mut Vec<u8>, count: i32) -> Result<(), NoMemory>
 }
 
 fn put_part(out: &mut Vec<u8>, part: Part) -> Result<(), NoMemory>
-    ensures { OnOk result (out.new.items ≡ out.old.items ++ spaced (part_words part)) }
+    ensures { OnOk result (out.new.items ≡ out.old.items ++ after_spaces (part_words part)) }
 {
     put_end(out, part.end)?;
     put_option(out, b"-S", part.size)?;
@@ -59,7 +59,7 @@ fn put_part(out: &mut Vec<u8>, part: Part) -> Result<(), NoMemory>
 }
 
 fn put_parts(out: &mut Vec<u8>, parts: &[Part]) -> Result<(), NoMemory>
-    ensures { OnOk result (out.new.items ≡ out.old.items ++ spaced (flat_map part_words parts.now)) }
+    ensures { OnOk result (out.new.items ≡ out.old.items ++ after_spaces (flat_map part_words parts.now)) }
 {
     for part in parts {
         put_part(out, *part)?;
@@ -69,7 +69,7 @@ fn put_parts(out: &mut Vec<u8>, parts: &[Part]) -> Result<(), NoMemory>
 
 /// Appends the parts of the mirrors.
 pub(crate) fn put_all_parts(out: &mut Vec<u8>, mirrors: &[MirrorSpec]) -> Result<(), NoMemory>
-    ensures { OnOk result (out.new.items ≡ out.old.items ++ spaced (flat_map (λ m. flat_map part_words m.parts) mirrors.now)) }
+    ensures { OnOk result (out.new.items ≡ out.old.items ++ after_spaces (flat_map (λ m. flat_map part_words m.parts) mirrors.now)) }
 {
     for mirror in mirrors {
         put_parts(out, mirror.parts.as_slice())?;
@@ -78,7 +78,7 @@ pub(crate) fn put_all_parts(out: &mut Vec<u8>, mirrors: &[MirrorSpec]) -> Result
 }
 
 fn put_prefer(out: &mut Vec<u8>, prefer: bool) -> Result<(), NoMemory>
-    ensures { OnOk result (out.new.items ≡ out.old.items ++ spaced (prefer_words prefer)) }
+    ensures { OnOk result (out.new.items ≡ out.old.items ++ after_spaces (prefer_words prefer)) }
 {
     if prefer {
         return put_word(out, b"--flags=prefer");
@@ -87,7 +87,7 @@ fn put_prefer(out: &mut Vec<u8>, prefer: bool) -> Result<(), NoMemory>
 }
 
 fn put_mirror(out: &mut Vec<u8>, mirror: &MirrorSpec) -> Result<(), NoMemory>
-    ensures { OnOk result (out.new.items ≡ out.old.items ++ spaced (mirror_words mirror.now)) }
+    ensures { OnOk result (out.new.items ≡ out.old.items ++ after_spaces (mirror_words mirror.now)) }
 {
     put_word(out, b"-N")?;
     put_prefer(out, mirror.prefer)?;
@@ -95,7 +95,7 @@ fn put_mirror(out: &mut Vec<u8>, mirror: &MirrorSpec) -> Result<(), NoMemory>
 }
 
 fn put_each(out: &mut Vec<u8>, mirrors: &[MirrorSpec]) -> Result<(), NoMemory>
-    ensures { OnOk result (out.new.items ≡ out.old.items ++ spaced (flat_map mirror_words mirrors.now)) }
+    ensures { OnOk result (out.new.items ≡ out.old.items ++ after_spaces (flat_map mirror_words mirrors.now)) }
 {
     for mirror in mirrors {
         put_mirror(out, mirror)?;
@@ -105,14 +105,14 @@ fn put_each(out: &mut Vec<u8>, mirrors: &[MirrorSpec]) -> Result<(), NoMemory>
 
 /// Appends the mirrors, each behind its `-N`.
 pub(crate) fn put_mirrors(out: &mut Vec<u8>, spec: &Spec) -> Result<(), NoMemory>
-    ensures { OnOk result (out.new.items ≡ out.old.items ++ spaced (flat_map mirror_words spec.now)) }
+    ensures { OnOk result (out.new.items ≡ out.old.items ++ after_spaces (flat_map mirror_words spec.now)) }
 {
     put_each(out, spec.mirrors())
 }
 
 /// Appends the mirrors that a resync is for, where they are named.
 pub(crate) fn put_only(out: &mut Vec<u8>, only: &Option<Ids>) -> Result<(), NoMemory>
-    ensures { OnOk result (out.new.items ≡ out.old.items ++ spaced (only_words only.now)) }
+    ensures { OnOk result (out.new.items ≡ out.old.items ++ after_spaces (only_words only.now)) }
 {
     let Some(ids) = only else {
         return Ok(());
@@ -124,7 +124,7 @@ pub(crate) fn put_only(out: &mut Vec<u8>, only: &Option<Ids>) -> Result<(), NoMe
 
 /// Appends the change of flags, which is one word.
 pub(crate) fn put_change(out: &mut Vec<u8>, change: FlagChange) -> Result<(), NoMemory>
-    ensures { OnOk result (out.new.items ≡ out.old.items ++ spaced (comp_flags_word change ∷ [])) }
+    ensures { OnOk result (out.new.items ≡ out.old.items ++ after_spaces (comp_flags_word change ∷ [])) }
 {
     put_word(out, b"--comp-flags=")?;
     put_flags(out, change)
@@ -132,7 +132,7 @@ pub(crate) fn put_change(out: &mut Vec<u8>, change: FlagChange) -> Result<(), No
 
 /// Appends where a mirror goes that is split off.
 pub(crate) fn put_to(out: &mut Vec<u8>, to: &SplitTo) -> Result<(), NoMemory>
-    ensures { OnOk result (out.new.items ≡ out.old.items ++ spaced (to_words to.now)) }
+    ensures { OnOk result (out.new.items ≡ out.old.items ++ after_spaces (to_words to.now)) }
 {
     match to {
         SplitTo::Default => Ok(()),

@@ -3,7 +3,8 @@
 ghost use Rattle.std.specs.Prelude.{◌≡◌, ℕ, List, ◌++◌, ◌∷◌, [], OnOk, IfOk, codes};
 ghost use Rattle.std.specs.Fmt.{decimal};
 ghost use Rattle.std.specs.List.{flat_map};
-ghost use Rattle.lfs_words.specs.Printing.{spaced, words_after_lfs, words_of_command, text_of_command};
+ghost use Rattle.text_words.specs.Pieces.{words_of};
+ghost use Rattle.lfs_words.specs.Printing.{after_spaces, words_after_lfs, words_of_command, text_of_command};
 ghost use Rattle.lfs_words.specs.Grammar.{Spells};
 ghost use Rattle.lfs_words.specs.declared.command.LfsCommand.{LfsCommand};
 ghost use Rattle.lfs_words.specs.declared.command.LfsCommand.TheVariants as commands;
@@ -18,7 +19,7 @@ use std::alloc::Global;
 use text_words::put_word;
 
 fn put_setstripe(out: &mut Vec<u8>, name: &Name, spec: &Spec) -> Result<(), NoMemory>
-    ensures { OnOk result (out.new.items ≡ out.old.items ++ spaced (words_after_lfs (commands.SetStripe name.now spec.now))) }
+    ensures { OnOk result (out.new.items ≡ out.old.items ++ after_spaces (words_after_lfs (commands.SetStripe name.now spec.now))) }
 {
     put_word(out, b"setstripe")?;
     put_all_parts(out, spec.mirrors())?;
@@ -26,14 +27,14 @@ fn put_setstripe(out: &mut Vec<u8>, name: &Name, spec: &Spec) -> Result<(), NoMe
 }
 
 fn put_getstripe(out: &mut Vec<u8>, name: &Name) -> Result<(), NoMemory>
-    ensures { OnOk result (out.new.items ≡ out.old.items ++ spaced (words_after_lfs (commands.GetStripe name.now))) }
+    ensures { OnOk result (out.new.items ≡ out.old.items ++ after_spaces (words_after_lfs (commands.GetStripe name.now))) }
 {
     put_word(out, b"getstripe")?;
     put_file(out, name)
 }
 
 fn put_comp_set(out: &mut Vec<u8>, name: &Name, id: u32, change: FlagChange) -> Result<(), NoMemory>
-    ensures { OnOk result (out.new.items ≡ out.old.items ++ spaced (words_after_lfs (commands.CompSet name.now id change))) }
+    ensures { OnOk result (out.new.items ≡ out.old.items ++ after_spaces (words_after_lfs (commands.CompSet name.now id change))) }
 {
     put_words(out, b"setstripe", b"--comp-set")?;
     put_option(out, b"-I", id as u64)?;
@@ -42,7 +43,7 @@ fn put_comp_set(out: &mut Vec<u8>, name: &Name, id: u32, change: FlagChange) -> 
 }
 
 fn put_create(out: &mut Vec<u8>, name: &Name, spec: &Spec) -> Result<(), NoMemory>
-    ensures { OnOk result (out.new.items ≡ out.old.items ++ spaced (words_after_lfs (commands.Create name.now spec.now))) }
+    ensures { OnOk result (out.new.items ≡ out.old.items ++ after_spaces (words_after_lfs (commands.Create name.now spec.now))) }
 {
     put_words(out, b"mirror", b"create")?;
     put_mirrors(out, spec)?;
@@ -50,7 +51,7 @@ fn put_create(out: &mut Vec<u8>, name: &Name, spec: &Spec) -> Result<(), NoMemor
 }
 
 fn put_extend(out: &mut Vec<u8>, name: &Name, spec: &Spec) -> Result<(), NoMemory>
-    ensures { OnOk result (out.new.items ≡ out.old.items ++ spaced (words_after_lfs (commands.Extend name.now spec.now))) }
+    ensures { OnOk result (out.new.items ≡ out.old.items ++ after_spaces (words_after_lfs (commands.Extend name.now spec.now))) }
 {
     put_words(out, b"mirror", b"extend")?;
     put_mirrors(out, spec)?;
@@ -58,7 +59,7 @@ fn put_extend(out: &mut Vec<u8>, name: &Name, spec: &Spec) -> Result<(), NoMemor
 }
 
 fn put_extend_by(out: &mut Vec<u8>, name: &Name, victim: &Name) -> Result<(), NoMemory>
-    ensures { OnOk result (out.new.items ≡ out.old.items ++ spaced (words_after_lfs (commands.ExtendBy name.now victim.now))) }
+    ensures { OnOk result (out.new.items ≡ out.old.items ++ after_spaces (words_after_lfs (commands.ExtendBy name.now victim.now))) }
 {
     put_words(out, b"mirror", b"extend")?;
     put_words(out, b"-N", b"-f")?;
@@ -67,7 +68,7 @@ fn put_extend_by(out: &mut Vec<u8>, name: &Name, victim: &Name) -> Result<(), No
 }
 
 fn put_split(out: &mut Vec<u8>, name: &Name, mirror: u16, to: &SplitTo) -> Result<(), NoMemory>
-    ensures { OnOk result (out.new.items ≡ out.old.items ++ spaced (words_after_lfs (commands.Split name.now mirror to.now))) }
+    ensures { OnOk result (out.new.items ≡ out.old.items ++ after_spaces (words_after_lfs (commands.Split name.now mirror to.now))) }
 {
     put_words(out, b"mirror", b"split")?;
     put_option(out, b"--mirror-id", mirror as u64)?;
@@ -76,7 +77,7 @@ fn put_split(out: &mut Vec<u8>, name: &Name, mirror: u16, to: &SplitTo) -> Resul
 }
 
 fn put_delete(out: &mut Vec<u8>, name: &Name, mirror: u16) -> Result<(), NoMemory>
-    ensures { OnOk result (out.new.items ≡ out.old.items ++ spaced (words_after_lfs (commands.Delete name.now mirror))) }
+    ensures { OnOk result (out.new.items ≡ out.old.items ++ after_spaces (words_after_lfs (commands.Delete name.now mirror))) }
 {
     put_words(out, b"mirror", b"delete")?;
     put_option(out, b"--mirror-id", mirror as u64)?;
@@ -84,7 +85,7 @@ fn put_delete(out: &mut Vec<u8>, name: &Name, mirror: u16) -> Result<(), NoMemor
 }
 
 fn put_resync(out: &mut Vec<u8>, name: &Name, only: &Option<Ids>) -> Result<(), NoMemory>
-    ensures { OnOk result (out.new.items ≡ out.old.items ++ spaced (words_after_lfs (commands.Resync name.now only.now))) }
+    ensures { OnOk result (out.new.items ≡ out.old.items ++ after_spaces (words_after_lfs (commands.Resync name.now only.now))) }
 {
     put_words(out, b"mirror", b"resync")?;
     put_only(out, only)?;
@@ -92,7 +93,7 @@ fn put_resync(out: &mut Vec<u8>, name: &Name, only: &Option<Ids>) -> Result<(), 
 }
 
 fn put_verify(out: &mut Vec<u8>, name: &Name) -> Result<(), NoMemory>
-    ensures { OnOk result (out.new.items ≡ out.old.items ++ spaced (words_after_lfs (commands.Verify name.now))) }
+    ensures { OnOk result (out.new.items ≡ out.old.items ++ after_spaces (words_after_lfs (commands.Verify name.now))) }
 {
     put_words(out, b"mirror", b"verify")?;
     put_file(out, name)
@@ -100,7 +101,7 @@ fn put_verify(out: &mut Vec<u8>, name: &Name) -> Result<(), NoMemory>
 
 /// Appends the words behind `lfs`.
 fn put_command(out: &mut Vec<u8>, command: &LfsCommand) -> Result<(), NoMemory>
-    ensures { OnOk result (out.new.items ≡ out.old.items ++ spaced (words_after_lfs command.now)) }
+    ensures { OnOk result (out.new.items ≡ out.old.items ++ after_spaces (words_after_lfs command.now)) }
 {
     match command {
         LfsCommand::SetStripe { name, spec } => put_setstripe(out, name, spec),
@@ -128,8 +129,10 @@ pub fn print_lfs(alloc: Global, command: &LfsCommand) -> Result<Octets, NoMemory
     Ok(Octets::from_vec(out))
 }
 
-/// The law of the printed form: a command that some words spell is spelt by the words that it is
-/// printed as. So reading those words gives the command again.
+/// The laws of the printed form of a command that some words spell: the words that it is printed as
+/// spell it too, and its text comes apart at the spaces into these words. So reading the text word by
+/// word gives the command again.
 pub fn printed_spells()
     ensures again { (most : ℕ) (words : List (List ℕ)) (command : LfsCommand) → Spells most words command → Spells most (words_of_command command) command }
+    ensures apart { (most : ℕ) (words : List (List ℕ)) (command : LfsCommand) → Spells most words command → words_of (text_of_command command) ≡ words_of_command command }
 {}

@@ -7,14 +7,20 @@ use std::alloc::Global;
 use std::test::*;
 use text_words::{cut, line_words, parts, put_decimal};
 
-/// The printed form of the command that the line's words are, or the text of the cause, for files of at
-/// most so many mirrors.
-fn again(alloc: Global, line: &[u8], most: u8) -> Result<Vec<u8>, NoMemory>
+/// The command that the line's words are.
+fn read(alloc: Global, line: &[u8], most: u8) -> Result<LfsCommand, Cause>
     requires { (0 < most) × (most ≤ 32) }
 {
-    let words = line_words(alloc, line)?;
+    let Ok(words) = line_words(alloc, line) else {
+        return Err(Cause::Memory);
+    };
+    read_lfs(alloc, &words, most)
+}
+
+/// The printed form of the command, or the text of the cause.
+fn printed(alloc: Global, found: Result<LfsCommand, Cause>) -> Result<Vec<u8>, NoMemory> {
     let mut out = Vec::new(alloc);
-    match read_lfs(alloc, &words, most) {
+    match found {
         Ok(command) => {
             let text = print_lfs(alloc, &command)?;
             out.extend_from_slice(text.as_slice())?;
@@ -24,8 +30,26 @@ fn again(alloc: Global, line: &[u8], most: u8) -> Result<Vec<u8>, NoMemory>
     Ok(out)
 }
 
-/// What the first line of the table is read as that isn't read as stands behind its bar, and nothing
-/// where each is. A printed form is read again.
+/// The printed form of the command that the line's words are, or the text of the cause, for files of at
+/// most so many mirrors.
+fn again(alloc: Global, line: &[u8], most: u8) -> Result<Vec<u8>, NoMemory>
+    requires { (0 < most) × (most ≤ 32) }
+{
+    printed(alloc, read(alloc, line, most))
+}
+
+/// The same of the command that is read from that printed form.
+fn twice(alloc: Global, line: &[u8], most: u8) -> Result<Vec<u8>, NoMemory>
+    requires { (0 < most) × (most ≤ 32) }
+{
+    match read(alloc, line, most) {
+        Ok(command) => printed(alloc, through_text(alloc, &command, most)),
+        Err(cause) => printed(alloc, Err(cause)),
+    }
+}
+
+/// What the first line of the table is read as that isn't read as stands behind its bar, be it at once
+/// or through its printed form, and nothing where each is.
 fn first_wrong(alloc: Global, table: &[u8]) -> Result<Vec<u8>, NoMemory> {
     for row in &parts(alloc, table, b'\n')? {
         if let Some((line, expected)) = cut(*row, b'|') {
@@ -33,8 +57,9 @@ fn first_wrong(alloc: Global, table: &[u8]) -> Result<Vec<u8>, NoMemory> {
             if text.as_slice() != expected {
                 return Ok(text);
             }
-            if text.starts_with(b"lfs ") && again(alloc, &text, 16)?.as_slice() != expected {
-                return again(alloc, &text, 16);
+            let text = twice(alloc, line, 16)?;
+            if text.as_slice() != expected {
+                return Ok(text);
             }
         }
     }

@@ -8,3 +8,4 @@ pub mod OneWords
 pub mod SizeLaws
 pub mod Spellings
 pub mod Splits
+pub mod WordTexts

@@ -7,3 +7,4 @@ pub mod Names
 pub mod Numbers
 pub mod Pieces
 pub mod Sizes
+pub mod Words
