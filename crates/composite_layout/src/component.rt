@@ -1,4 +1,5 @@
 ghost use Rattle.std.specs.Prelude.{◌≡◌, IfOk};
+ghost use Rattle.composite_layout.specs.Choices.{is_open_to, overlaps, takes_writes};
 
 use flr_base::{NoMemory, Objects, Range, Stripe};
 
@@ -30,6 +31,19 @@ pub enum State {
     SyncPending,
 }
 
+impl State {
+    /// Whether writes may go to a mirror as the file stands: there is one mirror, or the others are
+    /// stale where it was written.
+    pub fn takes_writes(self) -> bool
+        ensures says { result ≡ takes_writes self }
+    {
+        match self {
+            State::Single | State::WritePending => true,
+            State::ReadOnly | State::SyncPending => false,
+        }
+    }
+}
+
 /// A component of a mirror: the bytes of the file that it holds, and how they are striped over
 /// objects. The id is `mirror * 65536` plus the number of the component in its file.
 #[derive(Debug, Drop)]
@@ -57,5 +71,25 @@ impl Component {
             stripe: self.stripe,
             objects,
         })
+    }
+
+    /// Whether the component has bytes of the range.
+    pub fn overlaps(&self, range: Range) -> bool
+        ensures says { result ≡ overlaps range self.now }
+    {
+        self.extent.start < range.end && range.start < self.extent.end
+    }
+
+    /// Whether the component stands so that a write of its bytes may go to this mirror: it is of the
+    /// mirror, fresh, has its objects and isn't `offline`, or it is of another mirror and stale.
+    pub fn is_open_to(&self, mirror: u16) -> bool
+        ensures says { result ≡ is_open_to mirror self.now }
+    {
+        let flags = self.flags;
+        if self.mirror == mirror {
+            !flags.stale && flags.init && !flags.offline
+        } else {
+            flags.stale
+        }
     }
 }

@@ -1,9 +1,11 @@
 ghost use Rattle.std.specs.Prelude.{◌≡◌, List, IfOk, length, filter, position};
-ghost use Rattle.composite_layout.specs.LookUps.{begins_mirror, covers, has_mirror, has_stale};
+ghost use Rattle.composite_layout.specs.LookUps.{begins_mirror, covers};
 ghost use Rattle.composite_layout.specs.declared.component.Component.{Component};
 
+use crate::choices::ready_mirror;
 use crate::component::{Component, State};
-use flr_base::NoMemory;
+use crate::look_ups::wholly_fresh;
+use flr_base::{NoMemory, Range};
 use std::alloc::Global;
 use std::marker::Model;
 
@@ -48,6 +50,7 @@ impl Layout {
     ghost use Rattle.std.specs.Prelude.{◌≡◌, ◌<◌, length, nat_eq, IfOk, IsSome, IsTrue, true, slice_get, slice_index, position, OnSome};
     ghost use Rattle.composite_layout.specs.Layouts.{Composite, IsValid, eof};
     ghost use Rattle.composite_layout.specs.LookUps.{covers, has_mirror, mirror_ids, wholly_fresh};
+    ghost use Rattle.composite_layout.specs.Choices.{is_ready};
 
     /// The layout with these values, which are those of a valid one.
     pub fn of(
@@ -188,7 +191,17 @@ impl Layout {
     pub fn wholly_fresh(&self, mirror: u16) -> bool
         ensures says { result ≡ wholly_fresh mirror self.now.components }
     {
-        has_mirror(&self.components, mirror) && !has_stale(&self.components, mirror)
+        wholly_fresh(&self.components, mirror)
+    }
+
+    /// Whether a write of these bytes may go to the file as its layout stands: the state is `0` or
+    /// `wp`, and over the range all components of one mirror are fresh, have their objects and aren't
+    /// `offline`, and all those of the others are stale.
+    pub fn is_ready(&self, range: Range) -> bool
+        ensures says { result ≡ is_ready self.now range }
+        ensures valid { IsValid self.now }
+    {
+        self.state.takes_writes() && ready_mirror(&self.components, range).is_some()
     }
 }
 
@@ -198,20 +211,6 @@ fn place_covering(components: &[Component], mirror: u16, byte: u64) -> Option<us
     components.iter().position(|component| {
         component.mirror == mirror && component.extent.start <= byte && byte < component.extent.end
     })
-}
-
-fn has_mirror(components: &[Component], mirror: u16) -> bool
-    ensures { result ≡ has_mirror mirror components.now }
-{
-    components
-        .iter()
-        .any(|component| component.mirror == mirror)
-}
-
-fn has_stale(components: &[Component], mirror: u16) -> bool
-    ensures { result ≡ has_stale mirror components.now }
-{
-    components.iter().any(|component| component.mirror == mirror && component.flags.stale)
 }
 
 /// How many components begin a mirror.

@@ -1,5 +1,5 @@
 -- What the end of a copy, a change of flags, the begin of a copy and a write's intent do to a layout.
-use Rattle.std.specs.Prelude.{◌≡◌, ℕ, ◌+◌, Bool, true, false, not, ◌&&◌, ◌||◌, nat_eq, List, length, map, find, Option, option_map, Some, None, IsSome, if◌then◌else◌}
+use Rattle.std.specs.Prelude.{◌≡◌, ℕ, ◌+◌, Bool, true, false, not, ◌&&◌, ◌||◌, nat_eq, List, length, map, find, Option, option_map, Some, None, is_none, if◌then◌else◌}
 use Rattle.std.specs.List.{list_any}
 use Rattle.flr_base.specs.declared.reply.Range.{Range}
 use Rattle.flr_base.specs.declared.reply.Stripe.{Stripe}
@@ -105,12 +105,6 @@ pub record IsIntent (range : Range) (mirror file : ℕ) (nexts : List ℕ) (old 
   -- the next numbers stand past those that were used
   pub past : after ≡ nexts_after nexts (new_targets (is_over range mirror) (length nexts) file old.components)
 
--- why an intent is refused: there is no primary, or there is one and memory ran out
-abbrev pub IsIntentRefusal : Range → List Component → StateError → Type 0
-IsIntentRefusal range cs (errors.NoPrimary r) = (r ≡ range) × (primary_of range cs ≡ None)
-IsIntentRefusal range cs (errors.LastFresh mirror) = ⊥
-IsIntentRefusal range cs (errors.NoMirrorId id) = ⊥
-IsIntentRefusal range cs (errors.NoComponent id) = ⊥
-IsIntentRefusal range cs errors.TooManyMirrors = ⊥
-IsIntentRefusal range cs errors.TooManyComponents = ⊥
-IsIntentRefusal range cs errors.NoMemory = IsSome (primary_of range cs)
+-- why an intent is refused: there is no primary
+abbrev pub intent_refusal : Range → List Component → Option StateError
+intent_refusal range cs = if is_none (primary_of range cs) then Some (errors.NoPrimary range) else None

@@ -1,9 +1,11 @@
 ghost use Rattle.std.specs.Prelude.{◌≡◌, pos, IfOk};
 
-use crate::choices::{first_candidate, first_preferred, has_ready_mirror, primary, ready};
+use crate::choices::{first_candidate, first_preferred, primary, ready};
 use crate::error::StateError;
 use crate::select::{selected, selected_ids};
-use composite_layout::{Component, Flags, Layout, MirrorSpec, MirrorSpecs, Part, Spec, SpecError};
+use composite_layout::{
+    Component, Flags, Layout, MirrorSpec, MirrorSpecs, Part, Spec, SpecError, ready_mirror,
+};
 use flr_base::{EOF, Ids, NoMemory, Objects, Range, Stripe};
 use std::alloc::Global;
 use std::test::Fail;
@@ -243,7 +245,7 @@ fn ready_ranges(rt: HostRuntime) -> Result<(), Fail> {
     for (index, (rows, end, want)) in cases.into_iter().enumerate() {
         let all = components(alloc, rows)?;
         let range = Range { start: 0, end };
-        assert_eq!(rt; has_ready_mirror(&all, range), want, "case {index}");
+        assert_eq!(rt; ready_mirror(&all, range).is_some(), want, "case {index}");
     }
     Ok(())
 }

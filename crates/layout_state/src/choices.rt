@@ -1,11 +1,11 @@
 ghost use Rattle.std.specs.Prelude.{◌≡◌, ◌<◌, ℕ, true, find, IfSome};
 ghost use Rattle.std.specs.List.{list_any, list_all};
 ghost use Rattle.composite_layout.specs.Layouts.{eof};
-ghost use Rattle.composite_layout.specs.LookUps.{has_mirror, has_stale, mirror_ids, wholly_fresh};
-ghost use Rattle.composite_layout.specs.Choices.{is_open_to, is_ready, is_ready_mirror, overlaps, takes_writes};
+ghost use Rattle.composite_layout.specs.LookUps.{mirror_ids, wholly_fresh};
+ghost use Rattle.composite_layout.specs.Choices.{is_ready, is_ready_mirror};
 ghost use Rattle.layout_state.specs.Choosing.{all_preferred, has_offline, is_candidate, is_over, is_preferred, IsOnlyFresh, IsPrimary, primary_of};
 
-use composite_layout::{Component, Layout, State};
+use composite_layout::{Component, Layout, wholly_fresh};
 use flr_base::Range;
 
 /// The mirror that takes the writes of a range of bytes: among the wholly fresh mirrors none of whose
@@ -57,24 +57,7 @@ fn is_preferred(components: &[Component], range: Range, mirror: u16) -> bool
 fn is_candidate(components: &[Component], range: Range, mirror: u16) -> bool
     ensures { result ≡ is_candidate range components.now mirror }
 {
-    has_mirror(components, u32::from(mirror))
-        && !has_stale(components, mirror)
-        && !has_offline(components, range, mirror)
-}
-
-/// Whether there is a mirror of this id.
-pub(crate) fn has_mirror(components: &[Component], id: u32) -> bool
-    ensures { result ≡ has_mirror id components.now }
-{
-    components
-        .iter()
-        .any(|component| u32::from(component.mirror) == id)
-}
-
-fn has_stale(components: &[Component], mirror: u16) -> bool
-    ensures { result ≡ has_stale mirror components.now }
-{
-    components.iter().any(|component| component.mirror == mirror && component.flags.stale)
+    wholly_fresh(components, mirror) && !has_offline(components, range, mirror)
 }
 
 fn has_offline(components: &[Component], range: Range, mirror: u16) -> bool
@@ -93,14 +76,7 @@ fn all_preferred(components: &[Component], range: Range, mirror: u16) -> bool
 pub(crate) fn is_over(component: &Component, range: Range, mirror: u16) -> bool
     ensures { result ≡ is_over range mirror component.now }
 {
-    component.mirror == mirror && overlaps(component, range)
-}
-
-/// Whether the component has bytes of the range.
-pub(crate) fn overlaps(component: &Component, range: Range) -> bool
-    ensures { result ≡ overlaps range component.now }
-{
-    component.extent.start < range.end && range.start < component.extent.end
+    component.mirror == mirror && component.overlaps(range)
 }
 
 /// Whether a write of the range may go to a mirror as the layout stands: its state is `0` or `wp`,
@@ -112,46 +88,5 @@ pub fn ready(layout: &Layout, range: Range) -> bool
         → (mirror : ℕ) → is_ready_mirror range layout.now.components mirror ≡ true
         → IsOnlyFresh layout.now.components mirror }
 {
-    let components = layout.components();
-    takes_writes(layout.state()) && has_ready_mirror(components, range)
-}
-
-fn takes_writes(state: State) -> bool
-    ensures { result ≡ takes_writes state }
-{
-    match state {
-        State::Single | State::WritePending => true,
-        State::ReadOnly | State::SyncPending => false,
-    }
-}
-
-pub(crate) fn has_ready_mirror(components: &[Component], range: Range) -> bool
-    ensures { result ≡ list_any (is_ready_mirror range components.now) (mirror_ids components.now) }
-{
-    for component in components {
-        if component.extent.start == 0 && is_ready_mirror(components, range, component.mirror) {
-            return true;
-        }
-    }
-    false
-}
-
-/// Whether all components over the range stand so that a write may go to this mirror.
-fn is_ready_mirror(components: &[Component], range: Range, mirror: u16) -> bool
-    ensures { result ≡ is_ready_mirror range components.now mirror }
-{
-    components.iter().all(|component| !overlaps(component, range) || is_open_to(component, mirror))
-}
-
-/// Whether the component is of this mirror, fresh, with its objects and not offline, or it is of
-/// another mirror and stale.
-fn is_open_to(component: &Component, mirror: u16) -> bool
-    ensures { result ≡ is_open_to mirror component.now }
-{
-    let flags = component.flags;
-    if component.mirror == mirror {
-        !flags.stale && flags.init && !flags.offline
-    } else {
-        flags.stale
-    }
+    layout.is_ready(range)
 }

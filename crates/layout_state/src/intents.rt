@@ -4,9 +4,10 @@ ghost use Rattle.composite_layout.specs.Layouts.{IsShaped};
 ghost use Rattle.composite_layout.specs.LookUps.{wholly_fresh};
 ghost use Rattle.layout_state.specs.Choosing.{is_over, primary_of};
 ghost use Rattle.layout_state.specs.Making.{AreNext, new_objects, new_targets, nexts_after};
-ghost use Rattle.layout_state.specs.Marking.{IsIntent, IsIntentRefusal, stale_if_behind};
+ghost use Rattle.layout_state.specs.Marking.{IsIntent, intent_refusal, stale_if_behind};
+ghost use Rattle.layout_state.specs.Refusing.{IsRefusal};
 
-use crate::choices::{is_over, overlaps, primary};
+use crate::choices::{is_over, primary};
 use crate::error::StateError;
 use crate::leases::pending_state;
 use crate::maker::ObjectMaker;
@@ -35,7 +36,7 @@ pub fn intent(
     requires numbers { (target : ℕ) → slice_index maker.old target < 2 ^ 32 - 8388608 }
     ensures intended { IfOk result (λ mirror. IsIntent range mirror file maker.old layout.old layout.new maker.new) }
     ensures primary { IfOk result (λ mirror. primary_of range layout.old.components ≡ Some mirror) }
-    ensures refused { IfErr result (IsIntentRefusal range layout.old.components) }
+    ensures refused { IfErr result (IsRefusal (intent_refusal range layout.old.components)) }
     ensures unchanged { OnErr result (layout.new ≡ layout.old) }
     ensures unused { OnErr result (maker.new ≡ maker.old) }
 {
@@ -113,7 +114,7 @@ fn mark_behind(components: &mut Vec<Component>, range: Range, mirror: u16)
 fn mark_if_behind(component: &mut Component, range: Range, mirror: u16)
     ensures { component.new ≡ stale_if_behind range mirror component.old }
 {
-    if component.mirror != mirror && overlaps(component, range) {
+    if component.mirror != mirror && component.overlaps(range) {
         component.flags.stale = true;
     }
 }

@@ -1,6 +1,6 @@
 ghost use Rattle.std.specs.Prelude.{◌≡◌, ◌+◌, ◌<◌, ◌≤◌, ◌^◌, ◌&&◌, not, nat_eq, length, filter, is_some, true, None, IfOk, IfErr, IfSome, OnOk, OnErr};
 ghost use Rattle.std.specs.List.{list_any};
-ghost use Rattle.composite_layout.specs.LookUps.{begins_mirror, has_mirror, mirror_ids, wholly_fresh};
+ghost use Rattle.composite_layout.specs.LookUps.{begins_mirror, mirror_ids, wholly_fresh};
 ghost use Rattle.layout_state.specs.declared.error.StateError.TheVariants as errors;
 ghost use Rattle.layout_state.specs.Breaking.{unleased};
 ghost use Rattle.layout_state.specs.Refusing.{IsRefusal};
@@ -9,7 +9,7 @@ ghost use Rattle.layout_state.specs.Choosing.{has_fresh};
 
 use crate::error::StateError;
 use crate::leases::unleased;
-use composite_layout::{Component, Layout, State};
+use composite_layout::{Component, Layout, State, has_mirror};
 use flr_base::NoMemory;
 use std::alloc::Global;
 
@@ -45,7 +45,7 @@ pub fn remove_mirror(layout: &mut Layout, mirror: u16) -> Result<Option<Layout>,
 fn keeping(layout: &Layout, mirror: u16) -> Option<StateError>
     ensures { result ≡ keeping mirror layout.now.components }
 {
-    if !has_mirror(layout.components(), mirror) {
+    if !has_mirror(layout.components(), u32::from(mirror)) {
         return Some(StateError::NoMirrorId { id: mirror });
     }
     if has_fresh_beside(layout, mirror) {
@@ -53,14 +53,6 @@ fn keeping(layout: &Layout, mirror: u16) -> Option<StateError>
     } else {
         Some(StateError::LastFresh { mirror })
     }
-}
-
-fn has_mirror(components: &[Component], mirror: u16) -> bool
-    ensures { result ≡ has_mirror mirror components.now }
-{
-    components
-        .iter()
-        .any(|component| component.mirror == mirror)
 }
 
 /// Whether a mirror beside this one is wholly fresh.

@@ -4,9 +4,8 @@ ghost use Rattle.std.specs.Option.{ForSome, option_copied};
 ghost use Rattle.layout_state.specs.Selecting.{absent_of, AreSourced, has_source, is_asked, is_selected, is_source, is_sourced, IsSelection, select_refusal, selected_of};
 ghost use Rattle.layout_state.specs.Refusing.{IsRefusal};
 
-use crate::choices::has_mirror;
 use crate::error::StateError;
-use composite_layout::{Component, Layout};
+use composite_layout::{Component, Layout, has_mirror};
 use flr_base::{Ids, NoMemory, Range};
 use std::alloc::Global;
 

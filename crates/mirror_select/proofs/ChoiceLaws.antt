@@ -13,7 +13,8 @@ use Rattle.mirror_select.specs.declared.types.Piece.{Piece}
 use Rattle.mirror_select.specs.Candidates.{chosen, comes_first, has_byte, is_candidate, is_least}
 use Rattle.mirror_select.specs.Laws.{ChosenIsLeast, ChosenIsThere, ReadPieces, TakesWrites, ReadyHasMirror, IsPieceOf, ArePieces, WritePieces}
 use Rattle.mirror_select.specs.Pieces.{component_of, pieces_of, write_pieces_of}
-use Rattle.mirror_select.proofs.Least.{from_contains, to_contains, some_in, any_in, found_in, is_some-find, none_least, least_parts}
+use Rattle.composite_layout.proofs.Steps.{some_found}
+use Rattle.mirror_select.proofs.Least.{from_contains, to_contains, some_in, any_in, found_in, none_least, least_parts}
 use Rattle.mirror_select.proofs.Order.{total, along}
 use Rattle.mirror_select.proofs.Sound.{are_good}
 use Rattle.mirror_select.proofs.Walk.{answers_from, chosen_from}
@@ -28,7 +29,7 @@ chosen_least l failed byte c v = (
 )
 
 pub chosen_there : ChosenIsThere
-chosen_there cs failed byte = is_some-find (is_least cs failed byte) cs ∙ elim (cases_Bool (list_any (is_least cs failed byte) cs)) as (λ _. list_any (is_least cs failed byte) cs ≡ list_any (is_candidate failed byte) cs) [
+chosen_there cs failed byte = some_found (is_least cs failed byte) cs ∙ elim (cases_Bool (list_any (is_least cs failed byte) cs)) as (λ _. list_any (is_least cs failed byte) cs ≡ list_any (is_candidate failed byte) cs) [
   | inl e ↦
       let x = some_in (is_least cs failed byte) cs e in
       let parts = least_parts (is_candidate failed byte) comes_first cs x.0 x.2 in

@@ -1,6 +1,6 @@
 -- The least of those that pass a test, in an order that is total: where it is in a list, and that there is one.
 use Rattle.std.proofs.Common.{◌≡◌, ℕ, zero, suc, ◌+◌, ◌<◌, ◌≤◌, Bool, true, false, cond, not, ◌||◌, ◌&&◌, ltb, List, [], ◌∷◌, ◌++◌, length, get_or, take, Option, Some, None, refl, sym, ap, subst, ◌∙◌, inl, inr, arith}
-use Rattle.std.specs.Prelude.{◌⊎◌, Contains, is_some, position}
+use Rattle.std.specs.Prelude.{◌⊎◌, Contains, position}
 use Rattle.std.specs.Option.{ForSome}
 use Rattle.std.specs.List.{list_any, list_all, find, position_or_len, slice_get}
 use Rattle.std.proofs.lemmas.Bool.{cases_Bool, and_parts, and_from, and_left, or_cases, or_parts, or_from, or_left, or_right, lt-ltb, le-ltb, ltb-true, false≢true, both_ways}
@@ -84,11 +84,6 @@ module _ {X : Type 0} (p : X → Bool) where
   pub none_found : (xs : List X) → list_any p xs ≡ false → find p xs ≡ None
   none_found [] h = refl
   none_found (y ∷ ys) h = let parts = or_parts (p y) (list_any p ys) h in rw parts.0 (none_found ys parts.1)
-
-  -- something is found where something passes
-  pub is_some-find : (xs : List X) → is_some (find p xs) ≡ list_any p xs
-  is_some-find [] = refl
-  is_some-find (y ∷ ys) = elim (cases_Bool (p y)) as (λ _. is_some (find p (y ∷ ys)) ≡ list_any p (y ∷ ys)) [ inl e ↦ rw e refl | inr e ↦ rw e (is_some-find ys) ]
 
   -- what passes is found where all that pass are the same
   pub find_only : (xs : List X) (x : X) → In x xs → p x ≡ true → ((y : X) → In y xs → p y ≡ true → y ≡ x) → find p xs ≡ Some x

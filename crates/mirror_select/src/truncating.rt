@@ -6,9 +6,8 @@ ghost use Rattle.composite_layout.specs.Choices.{is_ready};
 ghost use Rattle.composite_layout.specs.Layouts.{IsShaped, eof};
 ghost use Rattle.mirror_select.specs.Tails.{ends_above, has_lower_id, is_better_id, is_lowest, is_next, stripes_in, tail_in, tails_of};
 
-use crate::ready::ready_mirror;
 use crate::types::{Tail, Tails};
-use composite_layout::{Component, Layout};
+use composite_layout::{Component, Layout, ready_mirror};
 use flr_base::{EOF, NoMemory, Range, Stripe};
 use std::alloc::Global;
 

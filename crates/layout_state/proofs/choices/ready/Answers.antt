@@ -2,8 +2,5 @@
 use Rattle.layout_state.proofs.ChoiceLaws.{ready_only_fresh}
 use Rattle.layout_state.proofs.choices.ready.Goals as goal
 
-pub returns-then-takes_writes-clause-only_fresh : goal.returns-then-takes_writes-clause-only_fresh
-returns-then-takes_writes-clause-only_fresh c = ready_only_fresh c.args.layout.now c.components-components.ensures.valid c.args.range
-
-pub returns-else-takes_writes-clause-only_fresh : goal.returns-else-takes_writes-clause-only_fresh
-returns-else-takes_writes-clause-only_fresh c = ready_only_fresh c.args.layout.now c.components-components.ensures.valid c.args.range
+pub returns-clause-only_fresh : goal.returns-clause-only_fresh
+returns-clause-only_fresh c = ready_only_fresh c.args.layout.now c.is_ready.ensures.valid c.args.range

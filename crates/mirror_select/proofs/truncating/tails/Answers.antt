@@ -8,7 +8,7 @@ use Rattle.mirror_select.proofs.truncating.tails.Goals as goal
 pub unreachable-requires : goal.unreachable-requires
 unreachable-requires c =
     let there = ready_there c.args.layout.now (record { start = c.args.from; end = 18446744073709551615 }) c.requires.ready in
-    let same : tail_mirror c.args.layout.now c.args.from ≡ c.ready_mirror.result = mirror_at c.args.layout.now c.components-components.result.now c.args.from c.ready_mirror.result c.components-components.ensures.same c.ready_mirror.ensures in
+    let same : tail_mirror c.args.layout.now c.args.from ≡ c.ready_mirror.result = mirror_at c.args.layout.now c.components-components.result.now c.args.from c.ready_mirror.result c.components-components.ensures.same c.ready_mirror.ensures.first in
     c.in_default.not-Some there.0 (sym same ∙ there.1)
 
 pub loop-index-smaller : goal.loop-index-smaller
@@ -34,6 +34,6 @@ pub returns : goal.returns
 returns c =
     let l = c.args.layout.now in
     let none = end_at l c.components-components.result.now (Some c.in-Some.mirror) c.args.from c.loop-index.id c.components-components.ensures.valid c.components-components.ensures.same (sym c.next_component.ensures ∙ c.in_default-next_component.is) in
-    let is = mirror_at l c.components-components.result.now c.args.from c.ready_mirror.result c.components-components.ensures.same c.ready_mirror.ensures ∙ c.in-Some.is in
+    let is = mirror_at l c.components-components.result.now c.args.from c.ready_mirror.result c.components-components.ensures.same c.ready_mirror.ensures.first ∙ c.in-Some.is in
     let whole = ap (λ (ss : List StripeObject). c.loop-index.tails ++ map (tail_in c.args.from) ss) (sym none) ∙ c.loop-index.invariant in
     record { tails = tails_whole l c.args.from c.in-Some.mirror c.loop-index.tails is whole }
