@@ -16,6 +16,7 @@ mod step;
 mod takes;
 
 pub use command::{LfsCommand, SplitTo};
+pub use lfs_values::{Cause, put_cause};
 pub use print::{print_lfs, printed_spells};
 pub use read::read_lfs;
 pub use round_trip::through_text;

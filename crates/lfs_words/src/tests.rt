@@ -2,7 +2,6 @@ ghost use Rattle.std.specs.Prelude.{◌<◌, ◌≤◌};
 
 use super::*;
 use flr_base::NoMemory;
-use lfs_values::{Cause, put_cause};
 use std::alloc::Global;
 use std::test::*;
 use text_words::{cut, line_words, parts, put_decimal};
