@@ -5,12 +5,13 @@ use Rattle.std.proofs.lemmas.Bool.{eqb-true}
 use Rattle.std.proofs.lemmas.List.{map-append, length-append}
 use Rattle.text_words.specs.Lines.{lines_of, onto_line, unended}
 use Rattle.text_words.specs.Names.{is_name}
+use Rattle.std.proofs.lemmas.Fmt.{decimal_injective}
 use Rattle.script_text.specs.declared.command.Command.{Command}
 use Rattle.script_text.specs.declared.command.Command.TheVariants.{SetStripe}
 use Rattle.script_text.specs.Commands.{line_of, IsOn}
 use Rattle.script_text.specs.Replays.{schedule_line}
 use Rattle.script_text.specs.Reading.{IsBody, HasBody, IsLineOf, IsScheduleOf}
-use Rattle.script_text.proofs.CommandTexts.{one_number, one_command}
+use Rattle.script_text.proofs.CommandTexts.{one_command}
 
 abbrev pub Lines : Type 0
 Lines = List (Option (List ℕ))
@@ -146,7 +147,7 @@ refuses_many file whole commands text line after r e more many b =
 -- ---- one body
 
 same_schedule : (a b : ℕ) → a ≤ 4096 → b ≤ 4096 → schedule_line a ≡ schedule_line b → a ≡ b
-same_schedule a b h k e = one_number a b (omega arith) (omega arith) (ap (λ (xs : List ℕ). drop 11 xs) e)
+same_schedule a b h k e = decimal_injective a b (omega arith) (omega arith) (ap (λ (xs : List ℕ). drop 11 xs) e)
 
 pub one_body : (file : List ℕ) (most most_too : ℕ) (cs ds : List Command) (a b : ℕ) (lines : Lines) → is_name file ≡ true → IsBody file most cs a lines → IsBody file most_too ds b lines → (cs ≡ ds) × (a ≡ b)
 one_body file most most_too [] [] a b lines named p q =

@@ -5,9 +5,9 @@ use Rattle.std.specs.List.{AllByRecursion}
 use Rattle.std.specs.Fmt.{decimal}
 use Rattle.text_words.specs.Lines.{lines_of, text_of}
 use Rattle.text_words.specs.Names.{is_name}
-use Rattle.text_words.specs.Pieces.{AllLack}
+use Rattle.text_words.specs.Pieces.{Lacks, AllLack}
 use Rattle.text_words.proofs.LineLaws.{lines-text, text-lines}
-use Rattle.text_words.proofs.Splits.{Lacks-append, decimal_lacks}
+use Rattle.text_words.proofs.WordTexts.{word_graphic, word_append, decimal_word, name_word, spaced_lacks}
 use Rattle.script_text.specs.declared.command.Command.{Command}
 use Rattle.script_text.specs.declared.command.Command.TheVariants.{SetStripe}
 use Rattle.script_text.specs.declared.fault.ScriptError.{ScriptError}
@@ -17,7 +17,7 @@ use Rattle.script_text.specs.Commands.{line_of, IsOn}
 use Rattle.script_text.specs.Scripts.{ScriptView, one_client}
 use Rattle.script_text.specs.Replays.{script_lines, schedule_line, IsReplay, IsNoReplay, IsRefusal, IsNoMemory}
 use Rattle.script_text.specs.Reading.{IsBody, IsBodyRefusal, headed}
-use Rattle.script_text.proofs.CommandTexts.{greater_lack, name_words, line_lacks}
+use Rattle.script_text.proofs.CommandTexts.{line_lacks}
 use Rattle.script_text.proofs.BodyLaws.{Lines, lines_by, Found, one_body}
 
 -- ---- the first line of several
@@ -54,18 +54,21 @@ head_found whole one two three (Some found) a b c h =
 
 -- ---- the lines of a replay
 
-body_lack : (file : List ℕ) (cs : List Command) (times : ℕ) → is_name file ≡ true → AllByRecursion (IsOn file) cs → times ≤ 4096 → AllLack 10 (map line_of cs ++ schedule_line times ∷ [])
-body_lack file [] times named on few = (Lacks-append 10 (codes "schedule 1*") (decimal times) (greater_lack 10 32 (codes "schedule 1*") (omega arith) refl) (decimal_lacks 10 times (omega arith) (omega arith)), tt)
-body_lack file (c ∷ cs) times named on few = (line_lacks file c named on.0, body_lack file cs times named on.1 few)
+schedule_lacks : (times : ℕ) → Lacks 10 (schedule_line times)
+schedule_lacks times = spaced_lacks (codes "schedule" ∷ (codes "1*" ++ decimal times) ∷ []) (refl, (word_append (codes "1*") (decimal times) refl (word_graphic (decimal times) (decimal_word times)), tt))
 
-all_lack : (file : List ℕ) (cs : List Command) (times : ℕ) → is_name file ≡ true → AllByRecursion (IsOn file) cs → times ≤ 4096 → AllLack 10 (script_lines (one_client (SetStripe file ∷ cs)) ++ schedule_line times ∷ [])
-all_lack file cs times named on few = (
-  greater_lack 10 32 (codes "flr-script 1") (omega arith) refl,
+body_lack : (file : List ℕ) (cs : List Command) (times : ℕ) → is_name file ≡ true → AllByRecursion (IsOn file) cs → AllLack 10 (map line_of cs ++ schedule_line times ∷ [])
+body_lack file [] times named on = (schedule_lacks times, tt)
+body_lack file (c ∷ cs) times named on = (line_lacks file c named on.0, body_lack file cs times named on.1)
+
+all_lack : (file : List ℕ) (cs : List Command) (times : ℕ) → is_name file ≡ true → AllByRecursion (IsOn file) cs → AllLack 10 (script_lines (one_client (SetStripe file ∷ cs)) ++ schedule_line times ∷ [])
+all_lack file cs times named on = (
+  spaced_lacks (codes "flr-script" ∷ codes "1" ∷ []) (refl, (refl, tt)),
   (
-    greater_lack 10 32 (codes "targets 1") (omega arith) refl,
+    spaced_lacks (codes "targets" ∷ codes "1" ∷ []) (refl, (refl, tt)),
     (
-      greater_lack 10 32 (codes "client 1") (omega arith) refl,
-      (Lacks-append 10 (codes "lfs setstripe ") file (greater_lack 10 32 (codes "lfs setstripe ") (omega arith) refl) (name_words 10 file refl named), body_lack file cs times named on few),
+      spaced_lacks (codes "client" ∷ codes "1" ∷ []) (refl, (refl, tt)),
+      (spaced_lacks (codes "lfs" ∷ codes "setstripe" ∷ file ∷ []) (refl, (refl, (name_word file named, tt))), body_lack file cs times named on),
     ),
   ),
 )
@@ -96,7 +99,7 @@ parts_of_replay text script runs p =
       times = p.times;
       below = lines_by s.others ++ Some (schedule_line p.times) ∷ [];
       named = s.name;
-      lines = ap lines_of whole ∙ lines-text (script_lines (one_client (SetStripe s.file ∷ s.others)) ++ schedule_line p.times ∷ []) (all_lack s.file s.others p.times s.name s.on_file p.few_steps)
+      lines = ap lines_of whole ∙ lines-text (script_lines (one_client (SetStripe s.file ∷ s.others)) ++ schedule_line p.times ∷ []) (all_lack s.file s.others p.times s.name s.on_file)
           ∙ ap (λ (xs : Lines). headed s.file xs) (some_body s.others (schedule_line p.times));
       body = record { on_file = s.on_file; few = s.few; some_steps = p.some_steps; few_steps = p.few_steps; lines_are = refl };
       script_is = s.commands;

@@ -1,8 +1,8 @@
 -- The spelling of bytes: what it lacks, and that it spells them.
 use Rattle.std.proofs.Common.{◌≡◌, ℕ, zero, suc, ◌/◌, ◌%◌, ◌<◌, ◌≤◌, ◌^◌, Bool, true, false, cond, eqb, List, [], ◌∷◌, ◌++◌, length, replicate, Option, Some, None, refl, sym, ap, subst, ◌∙◌, arith}
 use Rattle.std.specs.List.{flat_map, AllByRecursion}
-use Rattle.std.specs.Fmt.{digit_glyph}
-use Rattle.std.proofs.lemmas.Bool.{ne_eqb, eqb-true, eqb-false}
+use Rattle.std.specs.Fmt.{decimal, digit_glyph}
+use Rattle.std.proofs.lemmas.Bool.{and_from, eqb-true, eqb-false}
 use Rattle.std.proofs.lemmas.Bool.Decides.{nat_tests}
 use Rattle.std.proofs.lemmas.List.{length-append, length-replicate}
 use Rattle.std.proofs.lemmas.List.Concat.{flat_map-cons}
@@ -10,30 +10,31 @@ use Rattle.flr_base.specs.declared.runs.run.Run.{Run}
 use Rattle.flr_base.specs.Runs.{run_text, runs_text, bytes_of, AreRunsAfter, AreRuns, Spells, onto_run, runs_of, text_of_bytes}
 use Rattle.flr_base.proofs.RunLaws.{one_value}
 use Rattle.flr_base.proofs.RunLists.{runs_spell}
-use Rattle.text_words.specs.Pieces.{Lacks}
-use Rattle.text_words.proofs.Splits.{Lacks-append, decimal_lacks}
+use Rattle.text_words.specs.Words.{is_graphic, IsGraphic, IsWord}
+use Rattle.text_words.proofs.WordTexts.{graphic_append, word_graphic, word_append, decimal_word}
 
 abbrev pub AreAllBytes : List ℕ → Type 0
 AreAllBytes bytes = AllByRecursion (λ byte. byte < 256) bytes
 
--- ---- what the text lacks
+-- ---- the text is one word
 
-glyph_lacks : (sep d : ℕ) → sep < 42 → eqb (digit_glyph false d) sep ≡ false
-glyph_lacks sep d lt = grind (arith, nat_tests)
+glyph_is_graphic : (d : ℕ) → d < 16 → is_graphic (digit_glyph false d) ≡ true
+glyph_is_graphic d lt = grind (arith, nat_tests)
 
-run_lacks : (sep : ℕ) (r : Run) → sep < 42 → r.count < 2 ^ 32 → Lacks sep (run_text r)
-run_lacks sep r low fits =
-    (glyph_lacks sep (r.byte / 16) low, (glyph_lacks sep (r.byte % 16) low, (ne_eqb 42 sep (λ e. omega arith), decimal_lacks sep r.count (omega arith) (omega arith))))
+run_word : (r : Run) → r.byte < 256 → IsWord (run_text r)
+run_word r lt =
+    and_from (is_graphic (digit_glyph false (r.byte / 16))) _ (glyph_is_graphic (r.byte / 16) (omega arith))
+    (and_from (is_graphic (digit_glyph false (r.byte % 16))) _ (glyph_is_graphic (r.byte % 16) (omega arith)) (word_graphic (decimal r.count) (decimal_word r.count)))
 
-others_lack : (sep : ℕ) (last : Option ℕ) (rs : List Run) → sep < 42 → AreRunsAfter last rs → Lacks sep (flat_map (λ x. 43 ∷ run_text x) rs)
-others_lack sep last [] low h = tt
-others_lack sep last (r ∷ rs) low h =
-    subst (Lacks sep) (sym (flat_map-cons (λ (x : Run). 43 ∷ run_text x) r rs))
-    (ne_eqb 43 sep (λ e. omega arith), Lacks-append sep (run_text r) (flat_map (λ x. 43 ∷ run_text x) rs) (run_lacks sep r low h.2) (others_lack sep (Some r.byte) rs low h.4))
+others_graphic : (last : Option ℕ) (rs : List Run) → AreRunsAfter last rs → IsGraphic (flat_map (λ x. 43 ∷ run_text x) rs)
+others_graphic last [] h = refl
+others_graphic last (r ∷ rs) h =
+    subst IsGraphic (sym (flat_map-cons (λ (x : Run). 43 ∷ run_text x) r rs))
+    (graphic_append (43 ∷ run_text r) (flat_map (λ x. 43 ∷ run_text x) rs) (word_graphic (run_text r) (run_word r h.0)) (others_graphic (Some r.byte) rs h.4))
 
-runs_lack : (sep : ℕ) (rs : List Run) → sep < 42 → AreRuns rs → Lacks sep (runs_text rs)
-runs_lack sep [] low h = (ne_eqb 45 sep (λ e. omega arith), tt)
-runs_lack sep (r ∷ rs) low h = Lacks-append sep (run_text r) (flat_map (λ x. 43 ∷ run_text x) rs) (run_lacks sep r low h.2) (others_lack sep (Some r.byte) rs low h.4)
+runs_word : (rs : List Run) → AreRuns rs → IsWord (runs_text rs)
+runs_word [] h = refl
+runs_word (r ∷ rs) h = word_append (run_text r) (flat_map (λ x. 43 ∷ run_text x) rs) (run_word r h.0) (others_graphic (Some r.byte) rs h.4)
 
 -- ---- the runs of bytes stand for them
 
@@ -78,8 +79,8 @@ pub one_list : (a b : List ℕ) → AreAllBytes a → AreAllBytes b → length a
 one_list a b h k fits_a fits_b e =
     one_value (text_of_bytes a) a b (spells_them a h fits_a) (subst (λ (t : List ℕ). Spells t b) (sym e) (spells_them b k fits_b))
 
-pub bytes_lack : (sep : ℕ) (bytes : List ℕ) → sep < 42 → AreAllBytes bytes → length bytes < 2 ^ 32 → Lacks sep (text_of_bytes bytes)
-bytes_lack sep bytes low h fits = runs_lack sep (runs_of bytes) low (runs_stand bytes h fits).0
+pub bytes_word : (bytes : List ℕ) → AreAllBytes bytes → length bytes < 2 ^ 32 → IsWord (text_of_bytes bytes)
+bytes_word bytes h fits = runs_word (runs_of bytes) (runs_stand bytes h fits).0
 
 -- ---- what is spelled is bytes
 

@@ -9,11 +9,12 @@ use lib.Pointwise.{pointwise}
 use Rattle.flr_base.specs.Runs.{Spells, text_of_bytes}
 use Rattle.text_words.specs.Names.{is_name}
 use Rattle.text_words.specs.Pieces.{parts_of}
+use Rattle.std.proofs.lemmas.Fmt.{decimal_injective}
 use Rattle.script_text.specs.declared.command.Command.{Command}
 use Rattle.script_text.specs.declared.command.Command.TheVariants.{SetStripe, Read, Write}
 use Rattle.script_text.specs.Reading.{AreBytesOf, IsLengthOf, IsWordsOf, IsLineOf}
 use Rattle.script_text.proofs.RunTexts.{spells_them, spelled_bytes}
-use Rattle.script_text.proofs.CommandTexts.{one_number, line_of_words}
+use Rattle.script_text.proofs.CommandTexts.{line_of_words}
 
 -- ---- what stands behind a prefix
 
@@ -59,7 +60,7 @@ no_length file verb offset last at v o low h (SetStripe name) on e = on
 no_length file verb offset last at v o low h (Read name p k) on e =
     let most = on.2 in
     let offsets : decimal at ≡ decimal p = cc in
-    let same : at ≡ p = one_number at p (omega arith) (omega arith) offsets in
+    let same : at ≡ p = decimal_injective at p (omega arith) (omega arith) offsets in
     let spelled : last ≡ decimal k = cc in
     h k (on.1, (let within : at + k ≤ 1048576 = omega arith in within)) spelled
 no_length file verb offset last at v o low h (Write name p bytes) on e = let f : codes "read" ≡ codes "write" = cc in absurd cc
@@ -70,7 +71,7 @@ no_bytes file verb offset last at v o low h (Read name p k) on e = let f : codes
 no_bytes file verb offset last at v o low h (Write name p bytes) on e =
     let most = on.3 in
     let offsets : decimal at ≡ decimal p = cc in
-    let same : at ≡ p = one_number at p (omega arith) (omega arith) offsets in
+    let same : at ≡ p = decimal_injective at p (omega arith) (omega arith) offsets in
     let spelled : last ≡ text_of_bytes bytes = cc in
     h bytes (on.1, on.2, (let within : at + length bytes ≤ 1048576 = omega arith in within)) spelled
 

@@ -1,8 +1,9 @@
 -- Commands and their texts.
 use Rattle.std.specs.Prelude.{◌≡◌, ℕ, ◌+◌, ◌<◌, ◌≤◌, ◌^◌, List, [], ◌∷◌, length, codes}
-use Rattle.std.specs.List.{join_with_byte, AllByRecursion}
+use Rattle.std.specs.List.{AllByRecursion}
 use Rattle.std.specs.Fmt.{decimal}
 use Rattle.flr_base.specs.Runs.{text_of_bytes}
+use Rattle.text_words.specs.Words.{spaced}
 use Rattle.script_text.specs.declared.command.Command.{Command}
 use Rattle.script_text.specs.declared.command.Command.TheVariants.{SetStripe, Read, Write}
 
@@ -14,7 +15,7 @@ words_of (Write name offset bytes) = codes "write" ∷ name ∷ decimal offset �
 
 -- the line, without its byte 10
 abbrev pub line_of : Command → List ℕ
-line_of command = join_with_byte 32 (words_of command)
+line_of command = spaced (words_of command)
 
 -- the words of a command as reports print it
 abbrev pub printed_words : Command → List (List ℕ)
@@ -22,7 +23,7 @@ printed_words (SetStripe name) = codes "lfs" ∷ codes "setstripe" ∷ codes "-E
 printed_words other = words_of other
 
 abbrev pub command_text : Command → List ℕ
-command_text command = join_with_byte 32 (printed_words command)
+command_text command = spaced (printed_words command)
 
 -- its bytes are few enough to be spelled
 abbrev pub IsSpellable : Command → Type 0
