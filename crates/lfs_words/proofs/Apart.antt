@@ -1,6 +1,6 @@
 -- The printed text of a command comes apart into the words that it is printed as.
-use Rattle.std.proofs.Common.{◌≡◌, ℕ, Bool, true, false, List, [], ◌∷◌, Ok, Err, Option, Some, None, refl}
-use Rattle.std.specs.Prelude.{codes, Result, IfOk}
+use Rattle.std.proofs.Common.{◌≡◌, ℕ, Bool, true, false, List, [], ◌∷◌, Option, Some, None, refl}
+use Rattle.std.specs.Prelude.{codes, IfOk}
 use Rattle.std.specs.List.{flat_map}
 use Rattle.std.specs.Fmt.{decimal}
 use Rattle.composite_layout.specs.FlagChanges.{FlagSets}
@@ -18,12 +18,11 @@ use Rattle.lfs_words.specs.declared.command.LfsCommand.{LfsCommand}
 use Rattle.lfs_words.specs.declared.command.LfsCommand.TheVariants as commands
 use Rattle.lfs_words.specs.declared.asked.Asked.{Asked}
 use Rattle.lfs_words.specs.declared.asked.Asked.TheVariants as asks
-use Rattle.lfs_words.specs.Parts.{◌>>=◌}
 use Rattle.lfs_words.specs.Options.{ended_mirrors}
 use Rattle.lfs_words.specs.Checking.{alone, spec_of, other_file, checked_to, checked_split, checked_delete, checked_change, checked_extend_by, checked}
 use Rattle.lfs_words.specs.Printing.{part_words, prefer_words, mirror_words, parts_words, to_words, only_words, comp_flags_word, words_of_command, text_of_command}
 use Rattle.lfs_words.specs.Grammar.{bare, Spells}
-use Rattle.lfs_words.proofs.Binding.{if_any, if_ok_at}
+use Rattle.lfs_words.proofs.Binding.{if_any, if_bound, if_ok_at}
 use Rattle.lfs_words.proofs.Saying.{Said, SaidTo, said_items, said_bare}
 
 -- ---- the names in a command
@@ -49,13 +48,9 @@ change_named None change name named = tt
 change_named (Some id) None name named = tt
 change_named (Some id) (Some change) name named = named
 
-no_mirror : {E A B : Type 0} (r : Result A E) (e : E) (P : B → Type 0) → IfOk (r >>= λ _. Err e) P
-no_mirror (Ok x) e P = tt
-no_mirror (Err c) e P = tt
-
 extend_by_named : (mirror : Bool) (victim name : List ℕ) → IsName victim → IsName name → IfOk (checked_extend_by mirror victim name) AreNamed
 extend_by_named true victim name h named = if_any (other_file victim name) (λ _. commands.ExtendBy name victim) AreNamed (λ _. (named, h))
-extend_by_named false victim name h named = no_mirror (other_file victim name) _ AreNamed
+extend_by_named false victim name h named = if_bound (other_file victim name) _ AreNamed (λ _ _. tt)
 
 split_named : (mirror : Option ℕ) (to : SplitTo) (name : List ℕ) → SaidTo to → IsName name → IfOk (checked_split mirror to name) AreNamed
 split_named None to name h named = tt

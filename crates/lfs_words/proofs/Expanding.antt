@@ -10,7 +10,7 @@ use Rattle.composite_layout.specs.Specs.{IsAsked}
 use Rattle.lfs_words.specs.declared.asked.MirrorAsk.{MirrorAsk}
 use Rattle.lfs_words.specs.Checking.{mirror_of, expanded}
 use Rattle.lfs_words.specs.Goodness.{IsGoodAsk}
-use Rattle.lfs_words.proofs.Good.{all_append}
+use Rattle.composite_layout.proofs.New.{all_append}
 
 abbrev times : MirrorAsk → List MirrorSpec
 times m = replicate m.count (mirror_of m)

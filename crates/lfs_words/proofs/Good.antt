@@ -5,6 +5,7 @@ use Rattle.std.specs.List.{AllByRecursion}
 use Rattle.std.proofs.lemmas.Bool.{cond_both}
 use Rattle.composite_layout.specs.declared.spec.Part.{Part}
 use Rattle.composite_layout.specs.Specs.{IsAskedPart}
+use Rattle.composite_layout.proofs.New.{all_append}
 use Rattle.lfs_values.specs.declared.keys.Key.{Key}
 use Rattle.lfs_values.specs.declared.keys.Key.TheVariants as keys
 use Rattle.lfs_values.specs.Values.{stripe_size_of, stripe_count_of, IsStripeCount}
@@ -26,10 +27,6 @@ use Rattle.lfs_words.specs.Parts.{◌>>=◌, number_or, no_parts, ended_part, pa
 use Rattle.lfs_words.specs.Options.{name_of, id_of, no_change, take_change, take_set, ended_mirror, with_last, ended_mirrors, next_mirror, take_open, take_last_of, take_mirrors, take_extend, take_split, take_value, take, bars_dash, begins_with_dash}
 use Rattle.lfs_words.specs.Goodness.{IsGoodDraft, IsGoodAsk, IsGoodLast, AreGood, IsGood}
 use Rattle.lfs_words.proofs.Binding.{if_bound, if_either, if_map, if_any}
-
-pub all_append : {X : Type 0} (P : X → Type 0) (xs ys : List X) → AllByRecursion P xs → AllByRecursion P ys → AllByRecursion P (xs ++ ys)
-all_append P [] ys a b = b
-all_append P (x ∷ xs) ys a b = (a.0, all_append P xs ys a.1 b)
 
 pub good_no_parts : IsGoodDraft no_parts
 good_no_parts = record { done = tt; last = (omega arith, omega arith) }

@@ -29,7 +29,7 @@ use Rattle.lfs_words.specs.Checking.{mirror_of, expanded, unless, spec_of, alone
 use Rattle.lfs_words.specs.Printing.{part_words, words_of_command}
 use Rattle.lfs_words.specs.Grammar.{SetStripe, Create, Extend, form_words, bare, item_words, IsAsked, Spells}
 use Rattle.lfs_words.proofs.Binding.{bound}
-use Rattle.lfs_words.proofs.Good.{all_append}
+use Rattle.composite_layout.proofs.New.{all_append}
 use Rattle.lfs_words.proofs.Saying.{SaidPart, SaidAsk, SaidMirrors, Said, said_parts, said_mirrors, said_items, said_bare, some_parts}
 use Rattle.lfs_words.proofs.Printed.{Again, asked_so, short_again}
 use Rattle.lfs_words.proofs.PrintedParts.{IsPartKey, Holds, last_is, part_items, draft_for, draft_parts, all_on, parts_stand, Wraps, mirror_items, mirrors_after, SaidSpec, mirrors_on, ask_of, mirrors_ended, mirrors_stand}

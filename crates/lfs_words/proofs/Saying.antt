@@ -33,7 +33,7 @@ use Rattle.lfs_words.specs.Parts.{◌>>=◌, number_or, no_parts, ended_part, pa
 use Rattle.lfs_words.specs.Options.{name_of, id_of, no_change, take_change, take_set, ended_mirror, with_last, ended_mirrors, next_mirror, take_open, take_last_of, take_mirrors, take_extend, take_split, take_value, take, may_stand, bars_dash, begins_with_dash}
 use Rattle.lfs_words.specs.Grammar.{Form, SetStripe, GetStripe, Create, Extend, Split, Delete, Resync, Verify, bare, Item, with_item, with_items}
 use Rattle.lfs_words.proofs.Binding.{bound, if_either, if_map, if_ok_at}
-use Rattle.lfs_words.proofs.Good.{all_append}
+use Rattle.composite_layout.proofs.New.{all_append}
 
 -- a part that words may ask for
 abbrev pub SaidPart : Part → Type 0
