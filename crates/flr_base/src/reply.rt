@@ -84,6 +84,8 @@ pub enum Reply {
     Bytes(Octets),
     /// The bytes are written.
     Written,
+    /// The file has the asked size.
+    Truncated,
     /// The copy is done: the components that lost `stale`, and those that were left.
     Copied { cleared: Ids, left: Lefts },
     /// A file is taken in, its mirrors under these ids.

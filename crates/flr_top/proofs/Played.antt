@@ -2,8 +2,8 @@
 use Rattle.std.proofs.Common.{◌≡◌, ℕ, ◌+◌, ◌<◌, List, [], ◌∷◌, length, take, replicate, sym, ap, subst, ◌∙◌, arith, inl, inr}
 use Rattle.std.specs.Prelude.{Some, None, slice_get}
 use Rattle.std.proofs.lemmas.List.{append-nil, take-replicate}
-use Rattle.script_text.specs.declared.script.ClientRun.{ClientRun}
-use Rattle.script_text.specs.Scripts.{ScriptView}
+use Rattle.first_path_script.specs.declared.script.ClientRun.{ClientRun}
+use Rattle.first_path_script.specs.Scripts.{ScriptView}
 use Rattle.flr_world.specs.declared.client.Client.{Client}
 use Rattle.flr_world.specs.Clients.{ClientNext, Moves, Ends}
 use Rattle.flr_world.specs.States.{State, Finished, Unknown, next, next_by, next_from, client_at, new_client, after, start, unfinished_of, IsRun}

@@ -6,10 +6,10 @@ use Rattle.std.proofs.lemmas.List.{length-take, append-nil}
 use Rattle.flr_base.specs.declared.reply.Entry.{Entry}
 use Rattle.flr_base.specs.declared.reply.Reply.{Reply}
 use Rattle.flr_base.specs.declared.reply.Reply.TheVariants.{Bytes}
-use Rattle.script_text.specs.declared.command.Command.{Command}
-use Rattle.script_text.specs.declared.command.Command.TheVariants.{SetStripe, Read, Write}
-use Rattle.script_text.specs.Commands.{IsOn, IsSpellable}
-use Rattle.script_text.specs.Scripts.{ScriptView, commands_of, IsScript}
+use Rattle.first_path_script.specs.declared.command.Command.{Command}
+use Rattle.first_path_script.specs.declared.command.Command.TheVariants.{SetStripe, Read, Write}
+use Rattle.first_path_script.specs.Commands.{IsOn, IsSpellable}
+use Rattle.first_path_script.specs.Scripts.{ScriptView, commands_of, IsScript}
 use Rattle.flr_world.specs.Stores.{Plain, Allows, AllowsIf, IsLegal, command_of, effect_if}
 use Rattle.flr_top.specs.Reports.{IsPrintable, IsPrintableReply}
 

@@ -2,8 +2,8 @@
 use Rattle.std.specs.Prelude.{◌≡◌, ℕ, ◌+◌, ◌<◌, List, [], ◌∷◌, ◌++◌, replicate, Option, None, Some, codes, slice_get}
 use Rattle.std.specs.List.{flat_map}
 use Rattle.std.specs.Fmt.{decimal}
-use Rattle.script_text.specs.declared.script.ClientRun.{ClientRun}
-use Rattle.script_text.specs.Scripts.{ScriptView}
+use Rattle.first_path_script.specs.declared.script.ClientRun.{ClientRun}
+use Rattle.first_path_script.specs.Scripts.{ScriptView}
 use Rattle.flr_world.specs.States.{State, Finished, next, after, start, state_at, unfinished_of}
 use Rattle.flr_world.specs.Histories.{IsLinear}
 use Rattle.flr_world.specs.Takes.{EachAnswered}

@@ -11,9 +11,9 @@ use Rattle.flr_base.specs.declared.reply.Reply.TheVariants.{Created, Exists, NoF
 use Rattle.flr_base.specs.declared.reply.Take.{Take}
 use Rattle.flr_base.specs.declared.reply.TakeFrom.{TakeFrom}
 use Rattle.flr_base.specs.declared.reply.TakeFrom.TheVariants.{Hole, Object}
-use Rattle.script_text.specs.declared.command.Command.{Command}
-use Rattle.script_text.specs.Commands.{command_text, IsSpellable}
-use Rattle.script_text.specs.Scripts.{ScriptView}
+use Rattle.first_path_script.specs.declared.command.Command.{Command}
+use Rattle.first_path_script.specs.Commands.{command_text, IsSpellable}
+use Rattle.first_path_script.specs.Scripts.{ScriptView}
 use Rattle.flr_world.specs.declared.files.File.{File}
 use Rattle.flr_world.specs.declared.files.Layout.{Layout}
 use Rattle.flr_world.specs.States.{State}

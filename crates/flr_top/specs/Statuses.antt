@@ -2,9 +2,9 @@
 use Rattle.std.specs.Prelude.{◌≡◌, ℕ, ◌⊎◌, List, [], ◌∷◌, ◌++◌, Option, codes, map, String, string_bytes}
 use Rattle.std.specs.declared.alloc.Global.{Global}
 use Rattle.std.specs.Io.KnownBytes.{Appends}
-use Rattle.script_text.specs.declared.script.ClientRun.{ClientRun}
-use Rattle.script_text.specs.Scripts.{ScriptView}
-use Rattle.script_text.specs.Replays.{IsReplay, IsNoReplay}
+use Rattle.first_path_script.specs.declared.script.ClientRun.{ClientRun}
+use Rattle.first_path_script.specs.Scripts.{ScriptView}
+use Rattle.first_path_script.specs.Replays.{IsReplay, IsNoReplay}
 use Rattle.flr_top.specs.Replays.{IsDone, IsStopped, IsUnfinished}
 
 abbrev pub not_built_line : List ℕ

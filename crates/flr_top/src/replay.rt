@@ -1,16 +1,16 @@
 //! The replay of a script along its schedule.
 
 ghost use Rattle.std.specs.Prelude.{◌≡◌, ◌<◌, ◌≤◌, ◌^◌, ◌∷◌, [], ◌++◌, ℕ, length, List, IfOk};
-ghost use Rattle.script_text.specs.Replays.{IsReplay};
+ghost use Rattle.first_path_script.specs.Replays.{IsReplay};
 ghost use Rattle.flr_world.specs.States.{IsRun};
 ghost use Rattle.flr_top.specs.Replays.{Follows, finished_line, unfinished_line};
 ghost use Rattle.flr_top.specs.Outcomes.{IsOutcome};
 ghost use Rattle.flr_top.specs.Statuses.{not_built_line};
 
 use crate::report::{put, report_text};
+use first_path_script::{Script, ScriptError, read_replay};
 use flr_base::{NoMemory, put_decimal};
 use flr_world::{StepAnswer, World};
-use script_text::{Script, ScriptError, read_replay};
 use std::alloc::Global;
 
 /// What a replay came to: the text of the report, or the line that says why there is none.

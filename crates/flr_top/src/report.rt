@@ -4,16 +4,16 @@ ghost use Rattle.std.specs.Prelude.{◌≡◌, ◌+◌, ◌<◌, ◌^◌, ◌∷
 ghost use Rattle.std.specs.List.{flat_map};
 ghost use Rattle.flr_base.specs.declared.reply.Entry.{Entry as AnEntry};
 ghost use Rattle.flr_base.specs.Runs.{runs_of};
-ghost use Rattle.script_text.specs.Commands.{IsSpellable};
+ghost use Rattle.first_path_script.specs.Commands.{IsSpellable};
 ghost use Rattle.flr_world.specs.Stores.{command_of};
 ghost use Rattle.flr_world.specs.States.{IsRun};
 ghost use Rattle.flr_top.specs.Reports.{IsPrintable, IsPrintableReply, report_of, text_of_report, reply_text, from_text, take_line, call_name, places_text, answer_text, call_text, entry_text, flags_text, objects_text, layout_line, component_head, component_rest, layout_text, file_line, file_text, run_word};
 
+use first_path_script::{Command, Script, print_command};
 use flr_base::{
     Entry, NoMemory, Octets, Reply, Run, Take, TakeFrom, print_runs, put_decimal, runs_of,
 };
 use flr_world::{File, Layout, World};
-use script_text::{Command, Script, print_command};
 use std::alloc::Global;
 
 /// Appends a text.
@@ -53,6 +53,7 @@ fn put_reply(out: &mut Vec<u8>, reply: &Reply) -> Result<(), NoMemory>
         | Reply::Merged(_)
         | Reply::Same(_)
         | Reply::Differ(_)
+        | Reply::Truncated
         | Reply::Rotted
         | Reply::TooManyFiles
         | Reply::TooBig

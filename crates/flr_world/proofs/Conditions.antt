@@ -2,10 +2,10 @@
 use Rattle.std.proofs.Common.{◌≡◌, ℕ, zero, suc, ◌-◌, ◌^◌, ◌<◌, ◌≤◌, List, [], ◌∷◌, length, replicate, sym, ap, subst, ◌∙◌, arith, inl, inr}
 use Rattle.std.specs.Prelude.{Option, Some, slice_get, slice_index_or}
 use Rattle.flr_base.specs.declared.reply.Entry.{Entry}
-use Rattle.script_text.specs.declared.command.Command.{Command}
-use Rattle.script_text.specs.declared.command.Command.TheVariants as command
-use Rattle.script_text.specs.Commands.{IsOn}
-use Rattle.script_text.specs.Scripts.{ScriptView, one_client, IsScript, commands_of}
+use Rattle.first_path_script.specs.declared.command.Command.{Command}
+use Rattle.first_path_script.specs.declared.command.Command.TheVariants as command
+use Rattle.first_path_script.specs.Commands.{IsOn}
+use Rattle.first_path_script.specs.Scripts.{ScriptView, one_client, IsScript, commands_of}
 use Rattle.flr_world.specs.declared.files.File.{File}
 use Rattle.flr_world.specs.declared.locks.Lock.{Lock}
 use Rattle.flr_world.specs.declared.call.Phase.{Phase}

@@ -5,10 +5,10 @@ use Rattle.std.specs.List.{flat_map, AllByRecursion}
 use Rattle.flr_base.specs.Bytes.{piece}
 use Rattle.flr_base.specs.declared.reply.Entry.{Entry}
 use Rattle.flr_base.specs.declared.reply.Take.{Take}
-use Rattle.script_text.specs.declared.command.Command.{Command}
-use Rattle.script_text.specs.declared.command.Command.TheVariants as command
-use Rattle.script_text.specs.Commands.{IsOn}
-use Rattle.script_text.specs.Scripts.{one_client}
+use Rattle.first_path_script.specs.declared.command.Command.{Command}
+use Rattle.first_path_script.specs.declared.command.Command.TheVariants as command
+use Rattle.first_path_script.specs.Commands.{IsOn}
+use Rattle.first_path_script.specs.Scripts.{one_client}
 use Rattle.flr_world.specs.declared.files.File.{File}
 use Rattle.flr_world.specs.declared.target.CallEntry.{CallEntry}
 use Rattle.flr_world.specs.declared.locks.Lock.{Lock}

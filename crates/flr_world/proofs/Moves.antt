@@ -3,8 +3,8 @@ use Rattle.std.proofs.Common.{◌≡◌, ℕ, ◌+◌, ◌<◌, ◌≤◌, List,
 use Rattle.std.specs.Prelude.{Option, Some, slice_get}
 use Rattle.std.proofs.lemmas.List.{length_push}
 use Rattle.flr_base.specs.declared.reply.Entry.{Entry}
-use Rattle.script_text.specs.declared.command.Command.{Command}
-use Rattle.script_text.specs.Scripts.{one_client}
+use Rattle.first_path_script.specs.declared.command.Command.{Command}
+use Rattle.first_path_script.specs.Scripts.{one_client}
 use Rattle.flr_world.specs.declared.files.File.{File}
 use Rattle.flr_world.specs.declared.call.Opened.{Opened}
 use Rattle.flr_world.specs.declared.call.Phase.{Phase}

@@ -10,8 +10,8 @@ use Rattle.flr_base.specs.declared.reply.Reply.TheVariants as reply
 use Rattle.flr_base.specs.declared.reply.Take.{Take}
 use Rattle.flr_base.specs.declared.reply.TakeFrom.{TakeFrom}
 use Rattle.flr_base.specs.declared.reply.TakeFrom.TheVariants.{Hole, Object}
-use Rattle.script_text.specs.declared.command.Command.{Command}
-use Rattle.script_text.specs.Scripts.{ScriptView, one_client}
+use Rattle.first_path_script.specs.declared.command.Command.{Command}
+use Rattle.first_path_script.specs.Scripts.{ScriptView, one_client}
 use Rattle.flr_world.specs.declared.files.Cookie.{Cookie}
 use Rattle.flr_world.specs.declared.files.Layout.{Layout}
 use Rattle.flr_world.specs.Servers.{file_at}

@@ -2,8 +2,8 @@
 use Rattle.std.proofs.Common.{◌≡◌, ℕ, zero, suc, ◌+◌, List, [], ◌∷◌, ◌++◌, length, refl, sym, ap, subst, ◌∙◌}
 use Rattle.std.specs.Prelude.{Option, None, Some, slice_get}
 use Rattle.flr_base.specs.declared.reply.Entry.{Entry}
-use Rattle.script_text.specs.declared.command.Command.{Command}
-use Rattle.script_text.specs.Scripts.{ScriptView, commands_of, IsScript}
+use Rattle.first_path_script.specs.declared.command.Command.{Command}
+use Rattle.first_path_script.specs.Scripts.{ScriptView, commands_of, IsScript}
 use Rattle.flr_world.specs.declared.files.File.{File}
 use Rattle.flr_world.specs.declared.locks.Lock.{Lock}
 use Rattle.flr_world.specs.declared.client.Client.{Client}

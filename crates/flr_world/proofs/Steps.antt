@@ -13,10 +13,10 @@ use Rattle.flr_base.specs.declared.reply.Reply.{Reply}
 use Rattle.flr_base.specs.declared.reply.Reply.TheVariants as reply
 use Rattle.flr_base.specs.declared.reply.Take.{Take}
 use Rattle.flr_base.specs.declared.reply.TakeFrom.TheVariants.{Hole, Object}
-use Rattle.script_text.specs.declared.command.Command.{Command}
-use Rattle.script_text.specs.declared.command.Command.TheVariants as command
-use Rattle.script_text.specs.Commands.{IsOn}
-use Rattle.script_text.specs.Scripts.{one_client}
+use Rattle.first_path_script.specs.declared.command.Command.{Command}
+use Rattle.first_path_script.specs.declared.command.Command.TheVariants as command
+use Rattle.first_path_script.specs.Commands.{IsOn}
+use Rattle.first_path_script.specs.Scripts.{one_client}
 use Rattle.flr_world.specs.declared.files.File.{File}
 use Rattle.flr_world.specs.declared.files.Layout.{Layout}
 use Rattle.flr_world.specs.declared.call.Opened.{Opened}

@@ -6,10 +6,10 @@ use Rattle.std.specs.List.{AllByRecursion, filter}
 use Rattle.std.proofs.lemmas.Bool.{eq-eqb, ne_eqb, cases_eq}
 use Rattle.flr_base.specs.declared.reply.Entry.{Entry}
 use Rattle.flr_base.specs.declared.reply.Reply.TheVariants as reply
-use Rattle.script_text.specs.declared.command.Command.{Command}
-use Rattle.script_text.specs.declared.command.Command.TheVariants as command
-use Rattle.script_text.specs.Commands.{IsOn}
-use Rattle.script_text.specs.Scripts.{ScriptView, one_client, IsScript}
+use Rattle.first_path_script.specs.declared.command.Command.{Command}
+use Rattle.first_path_script.specs.declared.command.Command.TheVariants as command
+use Rattle.first_path_script.specs.Commands.{IsOn}
+use Rattle.first_path_script.specs.Scripts.{ScriptView, one_client, IsScript}
 use Rattle.flr_world.specs.declared.call.Phase.{Phase}
 use Rattle.flr_world.specs.declared.call.Phase.TheVariants as phase
 use Rattle.flr_world.specs.Servers.{new_file}

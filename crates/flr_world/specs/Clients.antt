@@ -3,7 +3,7 @@ use Rattle.std.specs.Prelude.{◌≡◌, ℕ, ◌+◌, List, Option, None, Some}
 use Rattle.flr_base.specs.declared.reply.Reply.{Reply}
 use Rattle.flr_base.specs.declared.reply.Take.{Take}
 use Rattle.flr_base.specs.declared.reply.Entry.{Entry}
-use Rattle.script_text.specs.declared.command.Command.{Command}
+use Rattle.first_path_script.specs.declared.command.Command.{Command}
 use Rattle.flr_world.specs.declared.call.Phase.{Phase}
 use Rattle.flr_world.specs.declared.call.Phase.TheVariants as phase
 use Rattle.flr_world.specs.declared.client.Client.{Client}

@@ -2,7 +2,7 @@
 use Rattle.std.specs.Prelude.{◌≡◌, ◌==◌, ℕ, ◌+◌, ◌-◌, ◌<◌, ◌≤◌, ◌⊎◌, List, [], ◌∷◌, Some, slice_get}
 use Rattle.std.specs.List.{filter, AllByRecursion}
 use Rattle.flr_base.specs.declared.reply.Entry.{Entry}
-use Rattle.script_text.specs.Scripts.{ScriptView}
+use Rattle.first_path_script.specs.Scripts.{ScriptView}
 use Rattle.flr_world.specs.Stores.{IsLegal}
 
 -- the place of the schedule, counted from 1, is a step of the client

@@ -1,8 +1,8 @@
 -- Honest states: what the servers keep against the plain files.
 use Rattle.std.specs.Prelude.{◌≡◌, ℕ, ◌+◌, ◌<◌, ◌≤◌, List, [], length, map, if◌then◌else◌, Some, get_or}
-use Rattle.script_text.specs.declared.command.Command.{Command}
-use Rattle.script_text.specs.declared.command.Command.TheVariants.{Write}
-use Rattle.script_text.specs.Scripts.{command_after}
+use Rattle.first_path_script.specs.declared.command.Command.{Command}
+use Rattle.first_path_script.specs.declared.command.Command.TheVariants.{Write}
+use Rattle.first_path_script.specs.Scripts.{command_after}
 use Rattle.flr_world.specs.declared.files.File.{File}
 use Rattle.flr_world.specs.declared.files.Layout.{Layout}
 use Rattle.flr_world.specs.declared.call.Phase.{Phase}

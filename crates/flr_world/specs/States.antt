@@ -2,7 +2,7 @@
 use Rattle.std.specs.Prelude.{◌≡◌, ℕ, ◌+◌, ◌-◌, List, [], ◌∷◌, ◌++◌, length, map, replicate, take, ◌==◌, ◌&&◌, if◌then◌else◌, Option, None, Some, is_some, slice_get, slice_set, zero, suc}
 use Rattle.std.specs.Option.{option_and_then}
 use Rattle.flr_base.specs.declared.reply.Entry.{Entry}
-use Rattle.script_text.specs.Scripts.{ScriptView, command_after, IsScript}
+use Rattle.first_path_script.specs.Scripts.{ScriptView, command_after, IsScript}
 use Rattle.flr_world.specs.declared.call.Phase.TheVariants as phase
 use Rattle.flr_world.specs.declared.client.Client.{Client}
 use Rattle.flr_world.specs.declared.client.Note.{Note}

@@ -8,8 +8,8 @@ use Rattle.flr_base.specs.declared.reply.TakeFrom.{TakeFrom}
 use Rattle.flr_base.specs.declared.reply.TakeFrom.TheVariants as from
 use Rattle.flr_base.specs.declared.reply.Progress.{Progress}
 use Rattle.flr_base.specs.declared.reply.Progress.TheVariants as progress
-use Rattle.script_text.specs.declared.command.Command.{Command}
-use Rattle.script_text.specs.declared.command.Command.TheVariants as command
+use Rattle.first_path_script.specs.declared.command.Command.{Command}
+use Rattle.first_path_script.specs.declared.command.Command.TheVariants as command
 use Rattle.flr_world.specs.declared.files.Layout.{Layout}
 use Rattle.flr_world.specs.declared.files.File.{File}
 use Rattle.flr_world.specs.declared.target.CallEntry.{CallEntry}

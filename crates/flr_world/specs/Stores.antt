@@ -5,9 +5,9 @@ use Rattle.flr_base.specs.Bytes.{overlay}
 use Rattle.flr_base.specs.declared.reply.Reply.{Reply}
 use Rattle.flr_base.specs.declared.reply.Reply.TheVariants.{Created, Exists, NoFile, Bytes, Written}
 use Rattle.flr_base.specs.declared.reply.Entry.{Entry}
-use Rattle.script_text.specs.declared.command.Command.{Command}
-use Rattle.script_text.specs.declared.command.Command.TheVariants.{SetStripe, Read, Write}
-use Rattle.script_text.specs.Scripts.{ScriptView, command_after}
+use Rattle.first_path_script.specs.declared.command.Command.{Command}
+use Rattle.first_path_script.specs.declared.command.Command.TheVariants.{SetStripe, Read, Write}
+use Rattle.first_path_script.specs.Scripts.{ScriptView, command_after}
 use Rattle.flr_world.specs.States.{State}
 
 -- a file is a name and a list of bytes

@@ -8,8 +8,8 @@ use Rattle.flr_base.specs.declared.reply.Reply.TheVariants.{Bytes}
 use Rattle.flr_base.specs.declared.reply.Take.{Take}
 use Rattle.flr_base.specs.declared.reply.TakeFrom.{TakeFrom}
 use Rattle.flr_base.specs.declared.reply.TakeFrom.TheVariants.{Hole, Object}
-use Rattle.script_text.specs.declared.command.Command.TheVariants.{Read}
-use Rattle.script_text.specs.Scripts.{ScriptView}
+use Rattle.first_path_script.specs.declared.command.Command.TheVariants.{Read}
+use Rattle.first_path_script.specs.Scripts.{ScriptView}
 use Rattle.flr_world.specs.declared.files.Layout.{Layout}
 use Rattle.flr_world.specs.declared.files.Cookie.{Cookie}
 use Rattle.flr_world.specs.declared.client.Client.{Client}

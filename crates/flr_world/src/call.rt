@@ -6,13 +6,13 @@ ghost use Rattle.flr_base.specs.declared.reply.TakeFrom.TheVariants as from_vari
 ghost use Rattle.flr_world.specs.Servers.{TargetView, shared, place_of, file_at, object_at, logged, first_object};
 ghost use Rattle.flr_world.specs.Steps.{Steps, StepFits, IsRefused, creates, write_at, read_at, read_opens, step_of, take_of, next_call, read_call};
 ghost use Rattle.flr_world.specs.declared.locks.Lock.{Lock as HeldLock};
-ghost use Rattle.script_text.specs.declared.command.Command.TheVariants as command;
+ghost use Rattle.first_path_script.specs.declared.command.Command.TheVariants as command;
 
 use crate::files::{Cookie, Files, Layout};
 use crate::locks::{Lock, Locks, Mode};
 use crate::target::{CallAnswer, CallEntry, CallKind, Target, put_zeros};
+use first_path_script::Command;
 use flr_base::{Name, NoMemory, ObjectId, Octets, Progress, Range, Reply, Take, TakeFrom, Takes};
-use script_text::Command;
 use std::alloc::Global;
 
 /// What a call got when it opened its file: the file's place, its cookie and its layout.

@@ -8,8 +8,8 @@ use crate::call::Phase;
 use crate::files::Files;
 use crate::locks::Locks;
 use crate::target::Target;
+use first_path_script::Command;
 use flr_base::{Entry, Progress};
-use script_text::Command;
 use std::alloc::Global;
 
 /// A client: how many of its commands are done, the place at which its call began, and what that does

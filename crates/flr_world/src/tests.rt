@@ -1,6 +1,6 @@
 use super::*;
+use first_path_script::read_replay;
 use flr_base::{Entry, NoMemory, ObjectId, Range, Reply, Take, TakeFrom};
-use script_text::read_replay;
 use std::alloc::Global;
 use std::process::Abort;
 use std::test::Fail;

@@ -1,7 +1,7 @@
 //! The world.
 
 ghost use Rattle.std.specs.Prelude.{◌≡◌, ◌<◌, ◌+◌, ◌^◌, ◌∷◌, [], ◌++◌, length, map, vec_len, vec_capacity, IfOk, option_copied};
-ghost use Rattle.script_text.specs.Scripts.{command_after};
+ghost use Rattle.first_path_script.specs.Scripts.{command_after};
 ghost use Rattle.flr_world.specs.Histories.{IsLinear};
 ghost use Rattle.flr_world.specs.Takes.{EachAnswered};
 ghost use Rattle.flr_world.specs.Honesty.{IsHonest};
@@ -12,8 +12,8 @@ use crate::client::{Client, ClientAnswer, Note};
 use crate::files::{File, Files};
 use crate::locks::Locks;
 use crate::target::Target;
+use first_path_script::{Command, Script};
 use flr_base::{Entry, NoMemory};
-use script_text::{Command, Script};
 use std::alloc::Global;
 use std::marker::Model;
 

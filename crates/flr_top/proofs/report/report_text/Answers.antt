@@ -5,7 +5,7 @@ use Rattle.flr_world.proofs.Theorem.{linear_run}
 use Rattle.std.specs.Prelude.{codes}
 use Rattle.std.specs.List.{flat_map}
 use Rattle.flr_base.specs.Runs.{runs_of}
-use Rattle.script_text.specs.Scripts.{ScriptView}
+use Rattle.first_path_script.specs.Scripts.{ScriptView}
 use Rattle.flr_world.specs.declared.files.File.{File}
 use Rattle.flr_top.specs.Reports.{IsPrintable, report_of, call_of, call_text, entry_text, file_text, run_word}
 use Rattle.flr_top.proofs.Lists.{next_part}

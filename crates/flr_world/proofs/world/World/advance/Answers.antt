@@ -1,6 +1,6 @@
 use Rattle.std.proofs.Common.{◌≡◌, ℕ, ◌+◌, ◌<◌, ◌≤◌, [], ◌∷◌, ◌++◌, length, refl, sym, ap, ◌∙◌, arith}
 use Rattle.std.specs.Prelude.{slice_get}
-use Rattle.script_text.specs.Scripts.{commands_of}
+use Rattle.first_path_script.specs.Scripts.{commands_of}
 use Rattle.flr_world.specs.States.{noted}
 use Rattle.flr_world.proofs.Conditions.{shown, short, step_fits, few_done}
 use Rattle.flr_world.proofs.Runs.{makes, run_more}
