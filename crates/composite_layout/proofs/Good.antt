@@ -1,8 +1,8 @@
 -- What isn't refused is a good spec.
-use Rattle.std.proofs.Common.{◌≡◌, ℕ, ◌%◌, ◌<◌, ◌≤◌, ℤ, pos, negsuc, ◌≤ℤ◌, Bool, true, false, cond, not, eqb, leb, ltb, List, [], ◌∷◌, length, map, refl, Option, Some, None, inl, inr, arith}
+use Rattle.std.proofs.Common.{◌≡◌, ℕ, ◌%◌, ◌<◌, ◌≤◌, ℤ, pos, negsuc, ◌≤ℤ◌, Bool, true, false, cond, not, eqb, leb, ltb, List, [], ◌∷◌, length, map, refl, sym, ap, ◌∙◌, Option, Some, None, inl, inr, arith}
 use Rattle.std.specs.List.{list_any, AllByRecursion}
 use Rattle.std.specs.Option.{option_or}
-use Rattle.std.proofs.lemmas.Bool.{not-false, eqb-true, leb-false, ltb-false, cases_Bool, or_parts, eqb-false}
+use Rattle.std.proofs.lemmas.Bool.{not-false, eqb-true, leb-false, ltb-false, cases_Bool, or_parts, eqb-false, false≢true}
 use Rattle.std.proofs.lemmas.List.{length-map}
 use Rattle.std.proofs.lemmas.Int.{ints}
 use Rattle.composite_layout.specs.declared.spec.Part.{Part}
@@ -10,7 +10,7 @@ use Rattle.composite_layout.specs.declared.spec.MirrorSpec.{MirrorSpec}
 use Rattle.composite_layout.specs.declared.spec.SpecError.{SpecError}
 use Rattle.composite_layout.specs.declared.spec.SpecError.TheVariants as errors
 use Rattle.composite_layout.specs.Layouts.{eof, is_end}
-use Rattle.composite_layout.specs.Specs.{IsAskedPart, IsAsked, size_of, count_of, normal_part, normal_mirror, parts_fault, mirrors_fault, refusal_of, PartsTile, IsCount, IsPart, IsMirrorSpec, IsSpec}
+use Rattle.composite_layout.specs.Specs.{IsAskedPart, IsAsked, size_of, count_of, normal_part, normal_mirror, parts_fault, mirrors_fault, refusal_of, IsRefusal, PartsTile, IsCount, IsPart, IsMirrorSpec, IsSpec}
 
 -- what holds where an if gives None
 not_then : (b : Bool) (e : SpecError) (o : Option SpecError) → cond b (Some e) o ≡ None → (b ≡ false) × (o ≡ None)
@@ -74,3 +74,52 @@ good ms most le a h =
     let some = eqb-false (length ms) 0 one.0 in
     let few = ltb-false most (length ms) two.0 in
     record { some = omega (arith, e, some); few = omega (arith, e, few, le); mirrors = good_mirrors ms a three.0 three.1 }
+
+-- whether a refusal is another than want of memory
+abbrev is_of_asking : SpecError → Bool
+is_of_asking errors.NoMirror = true
+is_of_asking errors.TooManyMirrors = true
+is_of_asking errors.TooManyParts = true
+is_of_asking (errors.Unaligned at) = true
+is_of_asking (errors.Gap at) = true
+is_of_asking errors.NoMemory = false
+
+-- the same of a refusal, if there is one
+abbrev asks : Option SpecError → Bool
+asks None = true
+asks (Some e) = is_of_asking e
+
+asks_if : (b : Bool) (x y : Option SpecError) → asks x ≡ true → asks y ≡ true → asks (cond b x y) ≡ true
+asks_if true x y h k = h
+asks_if false x y h k = k
+
+parts_ask : (at : ℕ) (ps : List Part) → asks (parts_fault at ps) ≡ true
+parts_ask at [] = asks_if (eqb at eof) None (Some (errors.Gap at)) refl refl
+parts_ask at (p ∷ ps) =
+    asks_if (not (is_end p.end)) (Some (errors.Unaligned p.end)) _ refl
+    (asks_if (not (eqb (p.size % 65536) 0)) (Some (errors.Unaligned p.size)) _ refl
+    (asks_if (leb p.end at) (Some (errors.Gap p.end)) _ refl (parts_ask p.end ps)))
+
+asks_or : (x y : Option SpecError) → asks x ≡ true → asks y ≡ true → asks (option_or x y) ≡ true
+asks_or None y h k = k
+asks_or (Some e) y h k = h
+
+mirrors_ask : (ms : List MirrorSpec) → asks (mirrors_fault ms) ≡ true
+mirrors_ask [] = refl
+mirrors_ask (m ∷ ms) = asks_or (parts_fault 0 m.parts) (mirrors_fault ms) (parts_ask 0 m.parts) (mirrors_ask ms)
+
+-- what is asked never calls for want of memory
+refusal_asks : (ms : List MirrorSpec) (most : ℕ) → asks (refusal_of ms most) ≡ true
+refusal_asks ms most =
+    asks_if (eqb (length ms) 0) (Some errors.NoMirror) _ refl
+    (asks_if (ltb most (length ms)) (Some errors.TooManyMirrors) _ refl
+    (asks_if (list_any (λ (m : MirrorSpec). ltb 64 (length m.parts)) ms) (Some errors.TooManyParts) _ refl (mirrors_ask ms)))
+
+-- the refusal that is called for is one
+pub called_for : (ms : List MirrorSpec) (most : ℕ) (e : SpecError) → refusal_of ms most ≡ Some e → IsRefusal ms most e
+called_for ms most errors.NoMirror h = h
+called_for ms most errors.TooManyMirrors h = h
+called_for ms most errors.TooManyParts h = h
+called_for ms most (errors.Unaligned at) h = h
+called_for ms most (errors.Gap at) h = h
+called_for ms most errors.NoMemory h = absurd (false≢true (sym (ap asks h) ∙ refusal_asks ms most))

@@ -50,14 +50,14 @@ abbrev pub refusal_of : List MirrorSpec → ℕ → Option SpecError
 refusal_of ms most =
     if nat_eq (length ms) 0 then Some errors.NoMirror else (if nat_lt most (length ms) then Some errors.TooManyMirrors else (if list_any (λ m. nat_lt 64 (length m.parts)) ms then Some errors.TooManyParts else mirrors_fault ms))
 
--- a refusal is the one that the mirrors call for, or memory ran out
+-- a refusal is the one that the mirrors call for; where they call for none, memory ran out
 abbrev pub IsRefusal : List MirrorSpec → ℕ → SpecError → Type 0
 IsRefusal ms most errors.NoMirror = refusal_of ms most ≡ Some errors.NoMirror
 IsRefusal ms most errors.TooManyMirrors = refusal_of ms most ≡ Some errors.TooManyMirrors
 IsRefusal ms most errors.TooManyParts = refusal_of ms most ≡ Some errors.TooManyParts
 IsRefusal ms most (errors.Unaligned at) = refusal_of ms most ≡ Some (errors.Unaligned at)
 IsRefusal ms most (errors.Gap at) = refusal_of ms most ≡ Some (errors.Gap at)
-IsRefusal ms most errors.NoMemory = Unit {0}
+IsRefusal ms most errors.NoMemory = refusal_of ms most ≡ None
 
 -- the parts follow each other from this byte up to EOF
 abbrev pub PartsTile : ℕ → List Part → Type 0

@@ -46,7 +46,7 @@ impl State {
 
 /// A component of a mirror: the bytes of the file that it holds, and how they are striped over
 /// objects. The id is `mirror * 65536` plus the number of the component in its file.
-#[derive(Debug, Drop)]
+#[derive(Debug, Drop, PartialEq, Eq)]
 pub struct Component {
     pub id: u32,
     pub mirror: u16,

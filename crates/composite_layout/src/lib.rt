@@ -16,6 +16,3 @@ pub use layout::Layout;
 pub use look_ups::{has_mirror, wholly_fresh};
 pub use make::new_mirrors;
 pub use spec::{MirrorSpec, MirrorSpecs, Part, Parts, Spec, SpecError};
-
-#[cfg(test)]
-mod tests;

@@ -20,7 +20,7 @@ pub struct Part {
 pub type Parts = Listed<Part>;
 
 /// A mirror that is asked for, and whether all its components get `prefer`.
-#[derive(Debug, Drop)]
+#[derive(Debug, Drop, PartialEq, Eq)]
 pub struct MirrorSpec {
     pub parts: Parts,
     pub prefer: bool,

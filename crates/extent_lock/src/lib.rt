@@ -12,6 +12,3 @@ mod lock;
 pub use extents::{ExtentLocks, LockError};
 pub use laws::{several_locks, whole_object};
 pub use lock::{Lock, Mode};
-
-#[cfg(test)]
-mod tests;

@@ -1,3 +1,4 @@
+pub mod PutTexts
 pub mod BodyLaws
 pub mod CommandTexts
 pub mod ReplayLaws

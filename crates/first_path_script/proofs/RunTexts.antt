@@ -8,6 +8,7 @@ use Rattle.std.proofs.lemmas.List.{length-append, length-replicate}
 use Rattle.std.proofs.lemmas.List.Concat.{flat_map-cons}
 use Rattle.flr_base.specs.declared.runs.run.Run.{Run}
 use Rattle.flr_base.specs.Runs.{run_text, runs_text, bytes_of, AreRunsAfter, AreRuns, Spells, onto_run, runs_of, text_of_bytes}
+use Rattle.flr_base.proofs.Lists.{all_append}
 use Rattle.flr_base.proofs.RunLaws.{one_value}
 use Rattle.flr_base.proofs.RunLists.{runs_spell}
 use Rattle.text_words.specs.Words.{is_graphic, IsGraphic, IsWord}
@@ -84,10 +85,6 @@ bytes_word bytes h fits = runs_word (runs_of bytes) (runs_stand bytes h fits).0
 
 -- ---- what is spelled is bytes
 
-AllByRecursion-append : (P : ℕ → Type 0) (xs ys : List ℕ) → AllByRecursion P xs → AllByRecursion P ys → AllByRecursion P (xs ++ ys)
-AllByRecursion-append P [] ys h k = k
-AllByRecursion-append P (x ∷ xs) ys h k = (h.0, AllByRecursion-append P xs ys h.1 k)
-
 all_one : (n b : ℕ) → b < 256 → AreAllBytes (replicate n b)
 all_one zero b lt = tt
 all_one (suc n) b lt = (lt, all_one n b lt)
@@ -95,7 +92,7 @@ all_one (suc n) b lt = (lt, all_one n b lt)
 of_runs : (last : Option ℕ) (rs : List Run) → AreRunsAfter last rs → AreAllBytes (bytes_of rs)
 of_runs last [] h = tt
 of_runs last (r ∷ rs) h =
-    subst AreAllBytes (sym (bytes-cons r rs)) (AllByRecursion-append (λ byte. byte < 256) (replicate r.count r.byte) (bytes_of rs) (all_one r.count r.byte h.0) (of_runs (Some r.byte) rs h.4))
+    subst AreAllBytes (sym (bytes-cons r rs)) (all_append (λ byte. byte < 256) (replicate r.count r.byte) (bytes_of rs) (all_one r.count r.byte h.0) (of_runs (Some r.byte) rs h.4))
 
 pub spelled_bytes : (text bytes : List ℕ) → Spells text bytes → AreAllBytes bytes × (text ≡ text_of_bytes bytes)
 spelled_bytes text bytes s = (subst AreAllBytes (sym s.3) (of_runs None s.0 s.1), runs_spell text bytes s)

@@ -14,6 +14,3 @@ pub use command::{Command, print_command};
 pub use fault::ScriptError;
 pub use read::read_replay;
 pub use script::{ClientRun, Runs, Script};
-
-#[cfg(test)]
-mod tests;

@@ -1,8 +1,8 @@
 -- One piece after another, through a source or a sink.
-use Rattle.std.proofs.Common.{◌≡◌, ℕ, ◌<◌, List, [], ◌++◌, length, take, drop, Option, Some, None, refl, sym, ap, ◌∙◌, append_assoc, arith}
+use Rattle.std.proofs.Common.{◌≡◌, ℕ, ◌+◌, ◌<◌, ◌≤◌, List, [], ◌++◌, length, take, drop, Option, Some, None, refl, sym, ap, ◌∙◌, append_assoc, arith}
 use Rattle.std.specs.Io.KnownBytes.{Appends, Keeps, Consumes}
-use Rattle.std.proofs.lemmas.List.{append-nil, take-append-drop, length-append}
-use Rattle.flr_base.specs.Streams.{IsLonger}
+use Rattle.std.proofs.lemmas.List.{append-nil, take-append-drop, length-append, length-take-le}
+use Rattle.flr_base.specs.Streams.{ReadsSome, IsLonger}
 
 -- nothing is taken
 pub Appends-none : (o : Option (List ℕ)) → Appends o o []
@@ -40,6 +40,14 @@ pub longer : (a b : Option (List ℕ)) (x : List ℕ) (most : ℕ) → Consumes 
 longer None b x most h lt = tt
 longer (Some xs) None x most h lt = absurd h
 longer (Some xs) (Some ys) x most h lt = omega (arith, ap (λ (t : List ℕ). length t) h, length-append x ys)
+
+-- one more piece is read, and both together are no more than this
+pub read_some : (start old new : Option (List ℕ)) (had buffer : List ℕ) (count most : ℕ) → Consumes start old had → Consumes old new (take count buffer) → 0 < count → count ≤ length buffer → length had + count ≤ most
+    → ReadsSome start new most
+read_some start old new had buffer count most h k some fits few =
+    let n : length (take count buffer) ≡ count = length-take-le count buffer fits in
+    let m : length (had ++ take count buffer) ≡ length had + count = length-append had (take count buffer) ∙ ap (λ (i : ℕ). length had + i) n in
+    (had ++ take count buffer, Consumes-then start old new had (take count buffer) h k, omega arith, omega arith)
 
 -- one more front of the text is taken
 pub taken_more : (start old new : Option (List ℕ)) (bytes rest after : List ℕ) (n : ℕ) → ((x : List ℕ) × (bytes ≡ x ++ rest) × Appends start old x) → Appends old new (take n rest) → after ≡ drop n rest

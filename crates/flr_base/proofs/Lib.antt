@@ -1,9 +1,11 @@
+pub mod Lists
 pub mod Machine
 pub mod Reader
 pub mod Residual
 pub mod Spelled
 pub mod Unique
 pub mod Ends
+pub mod Puts
 pub mod RunLaws
 pub mod RunLists
 pub mod Bytes

@@ -3,6 +3,7 @@ pub mod Faults
 pub mod Reading
 pub mod Streams
 pub mod MemEnds
+pub mod Puts
 pub mod Runs
 pub mod Scan
 pub mod RunsAnswers

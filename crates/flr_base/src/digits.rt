@@ -1,14 +1,15 @@
-ghost use Rattle.std.specs.Prelude.{◌≡◌, ◌++◌, ◌<◌, OnOk, false};
+ghost use Rattle.std.specs.Prelude.{◌≡◌, ◌<◌, false};
 ghost use Rattle.std.specs.Fmt.{decimal, digit_glyph};
+ghost use Rattle.flr_base.specs.Puts.{Puts};
 ghost use Rattle.flr_base.specs.Runs.{hex};
 
 use crate::memory::NoMemory;
 
 /// Appends the number in decimal, without a sign or a leading zero. It takes no memory but what the
-/// text grows by. Without memory the text may have grown by some of the digits.
-#[tactic(auto, using(std::proofs::lemmas::Fmt::decimal_digit))]
+/// text grows by. Without memory the text may have grown by the first of the digits.
+#[tactic(auto, using(crate::proofs::Puts::puts, std::proofs::lemmas::Fmt::decimal_digit))]
 pub fn put_decimal(out: &mut Vec<u8>, n: u64) -> Result<(), NoMemory>
-    ensures appended { OnOk result (out.new.items ≡ out.old.items ++ decimal n) }
+    ensures appended { Puts out.old.items out.new.items result (decimal n) }
 {
     if n < 10 {
         out.push(b'0' + n as u8)?;
@@ -31,9 +32,10 @@ fn digit_glyph(digit: u8) -> u8
 }
 
 /// Appends the byte as two lower-case hexadecimal digits. Without memory the text may have grown by
-/// one of them.
+/// the first of them.
+#[tactic(auto, using(crate::proofs::Puts::puts))]
 pub fn put_hex(out: &mut Vec<u8>, byte: u8) -> Result<(), NoMemory>
-    ensures appended { OnOk result (out.new.items ≡ out.old.items ++ hex byte) }
+    ensures appended { Puts out.old.items out.new.items result (hex byte) }
 {
     out.push(digit_glyph(byte / 16))?;
     out.push(digit_glyph(byte % 16))?;

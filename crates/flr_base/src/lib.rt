@@ -23,6 +23,3 @@ pub use reply::{
 };
 pub use runs::{Run, RunsError, print_runs, read_runs, runs_of};
 pub use streams::{ReadError, read_all, write_all};
-
-#[cfg(test)]
-mod tests;

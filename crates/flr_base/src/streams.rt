@@ -1,6 +1,6 @@
 ghost use Rattle.std.specs.Prelude.{◌≡◌, ◌≤◌, ◌<◌, length, IfOk, Err};
 ghost use Rattle.flr_base.specs.Causes.{HasCause, Rose};
-ghost use Rattle.flr_base.specs.Streams.{WritesFront, ReadsWhole, IsLonger};
+ghost use Rattle.flr_base.specs.Streams.{WritesFront, ReadsWhole, ReadsSome, IsLonger};
 
 use crate::list::Octets;
 use crate::outside::{Failed, Sink, Source};
@@ -17,12 +17,15 @@ pub enum ReadError {
     NoMemory,
 }
 
-/// All bytes that the source has left, at most `most`.
+/// All bytes that the source has left, at most `most`. They are read up to the first that is too many.
 pub fn read_all<S: Source>(alloc: Global, source: &mut S, most: u32) -> Result<Octets, ReadError>
     ensures whole { IfOk result (λ bytes. ReadsWhole (S.left source.old) (S.left source.new) bytes) }
     ensures within { IfOk result (λ bytes. length bytes ≤ most) }
     ensures long { result ≡ Err ReadError.TooLong → IsLonger (S.left source.old) most }
     ensures later { S.faults source.old ≤ S.faults source.new }
+    // Memory is wanted for bytes that were read alone, and for no more than `most`: what is known to be
+    // too long, and an empty source, never lack memory.
+    ensures memory { result ≡ Err ReadError.NoMemory → ReadsSome (S.left source.old) (S.left source.new) most }
     ensures failed { result ≡ Err ReadError.Failed → Rose (S.faults source.old) (S.faults source.new) }
 {
     let limit = most as usize;

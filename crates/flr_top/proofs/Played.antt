@@ -4,12 +4,11 @@ use Rattle.std.specs.Prelude.{Some, None, slice_get}
 use Rattle.std.proofs.lemmas.List.{append-nil, take-replicate}
 use Rattle.first_path_script.specs.declared.script.ClientRun.{ClientRun}
 use Rattle.first_path_script.specs.Scripts.{ScriptView}
-use Rattle.flr_world.specs.declared.client.Client.{Client}
-use Rattle.flr_world.specs.Clients.{ClientNext, Moves, Ends}
 use Rattle.flr_world.specs.States.{State, Finished, Unknown, next, next_by, next_from, client_at, new_client, after, start, unfinished_of, IsRun}
-use Rattle.flr_world.specs.Histories.{IsLinear}
+use Rattle.flr_world.specs.Histories.{IsComplete, IsLinear}
 use Rattle.flr_world.specs.Takes.{EachAnswered}
-use Rattle.flr_world.proofs.Theorem.{reached, linear_run, takes_run}
+use Rattle.flr_world.proofs.Theorem.{linear_run, takes_run}
+use Rattle.flr_world.proofs.Complete.{complete_run}
 use Rattle.flr_top.specs.Reports.{report_of, text_of_report}
 use Rattle.flr_top.specs.Replays.{places_of, IsDone, IsStopped, IsUnfinished, finished_line, unfinished_line}
 use Rattle.flr_top.proofs.Lists.{get_replicate}
@@ -20,20 +19,6 @@ one_run times = record { client = 1; times = times } ∷ []
 places_one : (times : ℕ) → places_of (one_run times) ≡ replicate times 1
 places_one times = append-nil (replicate times 1)
 
-not_by : (s : State) (c : ℕ) (x : ClientNext) → next_by s c x ≡ Unknown → ⊥
-not_by s c (Moves client shared note) e = cc
-not_by s c Ends e = cc
-
-known_of : (s : State) (client : Client) → s.clients ≡ client ∷ [] → next s 1 ≡ Unknown → ⊥
-known_of s client h e = not_by s 1 _ (sym (ap (λ (cs : List Client). next_from s 1 (client_at cs 1)) h) ∙ e)
-
--- the client of a script of one client is known
-pub known : (s : State) → IsRun s → next s 1 ≡ Unknown → ⊥
-known s run e = elim (reached s run) [
-  | inl is ↦ known_of s new_client (ap (λ (x : State). x.clients) is ∙ ap (λ (v : ScriptView). replicate (length v.clients) new_client) run.limits.commands) e
-  | inr g ↦ known_of s g.parts.client (ap (λ (x : State). x.clients) g.is) e
-]
-
 pub done_by : (script : ScriptView) (times : ℕ) (s : State) (text : List ℕ) → s.script ≡ script → IsRun s → s.schedule ≡ replicate times 1 → unfinished_of s ≡ None → text ≡ text_of_report (report_of s) → IsDone script (one_run times) text
 done_by script times s text same run made none written =
     let places : s.schedule ≡ places_of (one_run times) = made ∙ sym (places_one times) in
@@ -41,6 +26,7 @@ done_by script times s text same run made none written =
       state = s;
       run = ap (λ (v : ScriptView). after (start v) (places_of (one_run times))) (sym same) ∙ ap (λ (p : List ℕ). after (start s.script) p) (sym places) ∙ run.run;
       finished = none;
+      complete = subst (λ (v : ScriptView). IsComplete v s.entries) same (complete_run s run none);
       linear = subst (λ (v : ScriptView). IsLinear v (places_of (one_run times)) s.entries) same (subst (λ (p : List ℕ). IsLinear s.script p s.entries) places (linear_run s run));
       takes = subst (λ (v : ScriptView). EachAnswered v (places_of (one_run times)) s.entries) same (subst (λ (p : List ℕ). EachAnswered s.script p s.entries) places (takes_run s run));
       written = written;

@@ -5,7 +5,7 @@ use Rattle.std.specs.Fmt.{decimal}
 use Rattle.first_path_script.specs.declared.script.ClientRun.{ClientRun}
 use Rattle.first_path_script.specs.Scripts.{ScriptView}
 use Rattle.flr_world.specs.States.{State, Finished, next, after, start, state_at, unfinished_of}
-use Rattle.flr_world.specs.Histories.{IsLinear}
+use Rattle.flr_world.specs.Histories.{IsComplete, IsLinear}
 use Rattle.flr_world.specs.Takes.{EachAnswered}
 use Rattle.flr_top.specs.Reports.{report_of, text_of_report}
 
@@ -13,11 +13,12 @@ use Rattle.flr_top.specs.Reports.{report_of, text_of_report}
 abbrev pub places_of : List ClientRun → List ℕ
 places_of runs = flat_map (λ (r : ClientRun). replicate r.times r.client) runs
 
--- The schedule leads to a state in which nobody has a command left. The calls of its report are linear, each read with right takes, and the text is that of the report.
+-- The schedule leads to a state in which nobody has a command left. Every command has its entry, and each has ended. The entries are linear, each read with right takes and no other with any, and the text is that of the report.
 pub record IsDone (script : ScriptView) (runs : List ClientRun) (text : List ℕ) : Type 0 where
   pub state : State
   pub run : after (start script) (places_of runs) ≡ Some state
   pub finished : unfinished_of state ≡ None
+  pub complete : IsComplete script state.entries
   pub linear : IsLinear script (places_of runs) state.entries
   pub takes : EachAnswered script (places_of runs) state.entries
   pub written : text ≡ text_of_report (report_of state)

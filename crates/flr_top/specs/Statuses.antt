@@ -2,6 +2,7 @@
 use Rattle.std.specs.Prelude.{◌≡◌, ℕ, ◌⊎◌, List, [], ◌∷◌, ◌++◌, Option, codes, map, String, string_bytes}
 use Rattle.std.specs.declared.alloc.Global.{Global}
 use Rattle.std.specs.Io.KnownBytes.{Appends}
+use Rattle.flr_base.specs.Causes.{Rose}
 use Rattle.first_path_script.specs.declared.script.ClientRun.{ClientRun}
 use Rattle.first_path_script.specs.Scripts.{ScriptView}
 use Rattle.first_path_script.specs.Replays.{IsReplay, IsNoReplay}
@@ -49,8 +50,12 @@ pub record Tells (Is : List ℕ → List ℕ → Type 0) (bytes : List ℕ) (old
   pub is : Is bytes text
   pub taken : Appends old new text
 
+-- the line of a read fault, where the count of the source's faults rose
+abbrev pub IsReadFault : ℕ → ℕ → List ℕ → Type 0
+IsReadFault before now text = (text ≡ read_fault_line) × Rose before now
+
 -- status 5: a front of the text that would have been written was taken
-pub record TellsFront (bytes : List ℕ) (old new : Option (List ℕ)) : Type 0 where
+pub record TellsFront (bytes : List ℕ) (before now : ℕ) (old new : Option (List ℕ)) : Type 0 where
   pub text : List ℕ
-  pub is : IsReport bytes text ⊎ (IsRefusal bytes text ⊎ (text ≡ read_fault_line))
+  pub is : IsReport bytes text ⊎ (IsRefusal bytes text ⊎ IsReadFault before now text)
   pub taken : TakesFront old new text

@@ -6,6 +6,3 @@ mod replay;
 mod report;
 
 pub use main_call::{flr_main, replay_main};
-
-#[cfg(test)]
-mod tests;

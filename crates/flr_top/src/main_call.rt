@@ -32,13 +32,14 @@ fn written<K: Sink>(out: &mut K, text: &[u8], status: u8) -> u8
 /// so. 5: the sink failed, after a front of the text. 6: memory ran out, and nothing is written.
 /// The statuses are our own.
 pub fn replay_main<S: Source, K: Sink>(alloc: Global, input: &mut S, out: &mut K) -> u8
-    // The calls of the report that is written are linear, and each read has right takes.
+    // The report has an entry for each command, and each has ended. They are linear, and each read has
+    // right takes.
     ensures done { result ≡ 0 → IfSome (S.left input.old) (λ bytes. Tells IsReport bytes (K.taken out.old) (K.taken out.new)) }
     ensures refused { result ≡ 3 → IfSome (S.left input.old) (λ bytes. Tells IsRefusal bytes (K.taken out.old) (K.taken out.new)) }
     ensures read { result ≡ 4 → Rose (S.faults input.old) (S.faults input.new) }
     ensures read_line { result ≡ 4 → Appends (K.taken out.old) (K.taken out.new) read_fault_line }
     ensures write { result ≡ 5 → Rose (K.faults out.old) (K.faults out.new) }
-    ensures write_front { result ≡ 5 → IfSome (S.left input.old) (λ bytes. TellsFront bytes (K.taken out.old) (K.taken out.new)) }
+    ensures write_front { result ≡ 5 → IfSome (S.left input.old) (λ bytes. TellsFront bytes (S.faults input.old) (S.faults input.new) (K.taken out.old) (K.taken out.new)) }
     ensures memory { result ≡ 6 → Keeps (K.taken out.old) (K.taken out.new) }
     ensures status { IsStatus result }
 {
@@ -74,23 +75,25 @@ fn is_replay(words: &[String]) -> bool
 
 /// The program: `replay`, by its one word.
 ///
-/// Status 2: the words are others, and one line says which are known. The other statuses are those of
-/// `replay_main`, which reads the input and writes the output.
+/// Status 2: the words are others, and one line says which are known. The source isn't touched. The
+/// other statuses are those of `replay_main`, which reads the input and writes the output.
 pub fn flr_main<S: Source, K: Sink>(
     alloc: Global,
     words: &[String],
     input: &mut S,
     out: &mut K,
 ) -> u8
-    // The calls of the report that is written are linear, and each read has right takes.
+    // The report has an entry for each command, and each has ended. They are linear, and each read has
+    // right takes.
     ensures done { result ≡ 0 → IfSome (S.left input.old) (λ bytes. Tells IsReport bytes (K.taken out.old) (K.taken out.new)) }
     ensures words { result ≡ 2 → IsOtherWords words.now }
+    ensures untouched { IsOtherWords words.now → input.new ≡ input.old }
     ensures words_line { result ≡ 2 → Appends (K.taken out.old) (K.taken out.new) words_line }
     ensures refused { result ≡ 3 → IfSome (S.left input.old) (λ bytes. Tells IsRefusal bytes (K.taken out.old) (K.taken out.new)) }
     ensures read { result ≡ 4 → Rose (S.faults input.old) (S.faults input.new) }
     ensures read_line { result ≡ 4 → Appends (K.taken out.old) (K.taken out.new) read_fault_line }
     ensures write { result ≡ 5 → Rose (K.faults out.old) (K.faults out.new) }
-    ensures write_front { result ≡ 5 → IsReplayWord words.now → IfSome (S.left input.old) (λ bytes. TellsFront bytes (K.taken out.old) (K.taken out.new)) }
+    ensures write_front { result ≡ 5 → IsReplayWord words.now → IfSome (S.left input.old) (λ bytes. TellsFront bytes (S.faults input.old) (S.faults input.new) (K.taken out.old) (K.taken out.new)) }
     ensures words_front { result ≡ 5 → IsOtherWords words.now → TakesFront (K.taken out.old) (K.taken out.new) words_line }
     ensures memory { result ≡ 6 → Keeps (K.taken out.old) (K.taken out.new) }
     ensures status { IsOtherWords words.now → (result ≡ 2) ⊎ (result ≡ 5) }

@@ -29,7 +29,8 @@ fn follow(world: &mut World, times: u32) -> Result<Option<u32>, NoMemory>
     ensures steps { IfOk result (Follows times world.new) }
 {
     for made in 0..times {
-        match world.step(1) {
+        let answer = world.step(1);
+        match answer {
             StepAnswer::Stepped => {}
             StepAnswer::NoMemory => return Err(NoMemory),
             StepAnswer::Finished => return Ok(Some(made)),

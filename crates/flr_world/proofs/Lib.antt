@@ -6,3 +6,4 @@ pub mod Steps
 pub mod Theorem
 pub mod Conditions
 pub mod Runs
+pub mod Complete

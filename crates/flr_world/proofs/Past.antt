@@ -91,7 +91,7 @@ right_more script schedule c client number at takes name offset len bytes h = re
 -- an answer, by its parts: the entry's client, number, point and takes
 answer_more : (script : ScriptView) (schedule : List ℕ) (c : ℕ) (e : Entry) (r : Reply) → IsAnswered script schedule e r → IsAnswered script (schedule ++ c ∷ []) e r
 answer_more script schedule c e (reply.Bytes bytes) h = (h.0, h.1, h.2, h.3, right_more script schedule c e.client e.number e.at e.takes h.0 h.1 h.2 bytes h.4)
-answer_more script schedule c e other h = tt
+answer_more script schedule c e other h = h
 
 pub each_more : (script : ScriptView) (schedule : List ℕ) (c : ℕ) (es : List Entry) → EachAnswered script schedule es → EachAnswered script (schedule ++ c ∷ []) es
 each_more script schedule c [] h = tt
@@ -263,7 +263,7 @@ each_close_by script schedule place e true h = last_free script schedule place e
   where
     last_free : (script : ScriptView) (schedule : List ℕ) (place : ℕ) (e : Entry) (r : Reply) → IsAnswered script schedule e r → IsAnswered script schedule (record e { last = place }) r
     last_free script schedule place e (reply.Bytes bytes) h = h
-    last_free script schedule place e other h = tt
+    last_free script schedule place e other h = h
 
 each_close : (script : ScriptView) (schedule : List ℕ) (c place : ℕ) (es : List Entry) → EachAnswered script schedule es → EachAnswered script schedule (map (closed c place) es)
 each_close script schedule c place [] h = tt

@@ -9,8 +9,9 @@ use Rattle.flr_world.specs.declared.locks.Lock.{Lock}
 use Rattle.flr_world.specs.declared.client.Client.{Client}
 use Rattle.flr_world.specs.declared.client.Note.{Note}
 use Rattle.flr_world.specs.Servers.{TargetView, shared}
-use Rattle.flr_world.specs.Clients.{Moves, client_next}
-use Rattle.flr_world.specs.States.{State, Stepped, Finished, Unknown, next, next_by, noted, place_in, after, start, IsRun}
+use Rattle.flr_world.specs.Clients.{Moves, client_by, client_next, first_of}
+use Rattle.flr_world.specs.Steps.{Outcome, Going, Fixed, Ended, Answered, step_of}
+use Rattle.flr_world.specs.States.{State, Stepped, Finished, Unknown, CanStep, next, next_by, noted, place_in, after, start, IsRun}
 use Rattle.flr_world.proofs.Prefixes.{after_more}
 use Rattle.flr_world.proofs.Conditions.{shown}
 
@@ -29,6 +30,18 @@ module _ (script : ScriptView) (files : List File) (target : TargetView) (locks 
   finished c e none =
       let here : slice_get (commands_of script 1) client.done ≡ None = ap (λ (k : ℕ). slice_get (commands_of script k) client.done) (sym e) ∙ none in
       ap (next s) e ∙ ap (λ (o : Option Command). next_by s 1 (client_next 1 (place_in s) client s.shared o)) here
+
+  can_step_by : (first : ℕ) (out : Outcome) → CanStep (next_by s 1 (client_by 1 (place_in s) client first out))
+  can_step_by first (Going at after) = tt
+  can_step_by first (Fixed at reply takes after) = tt
+  can_step_by first (Ended after) = tt
+  can_step_by first (Answered reply takes after) = tt
+
+  -- with a command left
+  pub can_step : (c : ℕ) (command : Command) → c ≡ 1 → slice_get (commands_of script 1) client.done ≡ Some command → CanStep (next (shown script files target locks client entries schedule) c)
+  can_step c command e asked =
+      let step : next s c ≡ next_by s 1 (client_next 1 (place_in s) client s.shared (Some command)) = ap (next s) e ∙ ap (λ (o : Option Command). next_by s 1 (client_next 1 (place_in s) client s.shared o)) asked in
+      subst CanStep (sym step) (can_step_by (first_of client (place_in s) client.phase) (step_of command 1 client.phase s.shared))
 
   -- the step that a client makes
   pub makes : (c : ℕ) (command : Command) (place : ℕ) (files' : List File) (target' : TargetView) (locks' : List Lock) (client' : Client) (entries' : List Entry) (schedule' : List ℕ) (note : Note) → c ≡ 1 → slice_get (commands_of script 1) client.done ≡ Some command

@@ -198,7 +198,7 @@ write_commit p name others bytes n offset new o m g got is on small =
       allowed = subst (λ (c : Option Command). AllowsIf (record { name = name; bytes = bytes } ∷ []) c reply.Written) (sym asked) ((0, there), omega arith);
       effect = ap (λ (c : Option Command). effect_if (record { name = name; bytes = bytes } ∷ []) c reply.Written) asked
           ∙ ap (λ (k : Option ℕ). with_bytes (record { name = name; bytes = bytes } ∷ []) k (λ old. overlay old offset new)) there;
-      answered = tt;
+      answered = refl;
     } in
     let numbers = numbers_fixes p others file p.client.first phase.Unlock e m.numbers refl refl (sym (ap (λ k. k + 1) (ap spent is))) in
     let made : Made q name others after = made_fixes p name others bytes after file _ e m step numbers adds refl (ap (λ k. max k (offset + length new)) m.size ∙ sym (length-overlay bytes offset new)) m.unmade in

@@ -51,7 +51,7 @@ first_made name others on few = record {
     order = (refl, omega arith, tt, tt);
     ones = (refl, tt);
     lasts = (omega arith, tt);
-    answered = (tt, tt);
+    answered = (refl, tt);
   };
   numbers = record {
     steps = omega arith;

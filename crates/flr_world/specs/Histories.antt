@@ -1,8 +1,9 @@
 -- Linear histories: legal, each call at a moment within its interval, each client's calls in order.
-use Rattle.std.specs.Prelude.{◌≡◌, ◌==◌, ℕ, ◌+◌, ◌-◌, ◌<◌, ◌≤◌, ◌⊎◌, List, [], ◌∷◌, Some, slice_get}
+use Rattle.std.specs.Prelude.{◌≡◌, ◌==◌, ℕ, ◌+◌, ◌-◌, ◌<◌, ◌≤◌, ◌⊎◌, List, [], ◌∷◌, Contains, Some, slice_get}
 use Rattle.std.specs.List.{filter, AllByRecursion}
 use Rattle.flr_base.specs.declared.reply.Entry.{Entry}
-use Rattle.first_path_script.specs.Scripts.{ScriptView}
+use Rattle.first_path_script.specs.declared.command.Command.{Command}
+use Rattle.first_path_script.specs.Scripts.{ScriptView, command_after}
 use Rattle.flr_world.specs.Stores.{IsLegal}
 
 -- the place of the schedule, counted from 1, is a step of the client
@@ -37,3 +38,15 @@ pub record IsLinear (script : ScriptView) (schedule : List ℕ) (entries : List 
   pub within : AllByRecursion (IsWithinInterval schedule) entries
   pub points : ArePointsAfter 0 entries
   pub in_order : (client : ℕ) → FollowInOrder 1 0 (filter (λ (e : Entry). e.client == client) entries)
+
+-- one of the entries is the client's call with this number
+pub record HasEntry (entries : List Entry) (client number : ℕ) : Type 0 where
+  pub entry : Entry
+  pub listed : Contains entries entry
+  pub calls : entry.client ≡ client
+  pub counted : entry.number ≡ number
+
+-- every command of every client has its entry, and each entry has ended
+pub record IsComplete (script : ScriptView) (entries : List Entry) : Type 0 where
+  pub every : (client done : ℕ) (command : Command) → 0 < client → command_after script client done ≡ Some command → HasEntry entries client (done + 1)
+  pub ended : AllByRecursion (λ (e : Entry). 0 < e.last) entries

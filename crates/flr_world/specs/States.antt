@@ -65,13 +65,19 @@ next_from s c (Some client) = next_by s c (client_next c (place_in s) client s.s
 abbrev pub next : State → ℕ → Next
 next s c = next_from s c (client_at s.clients c)
 
--- what a step of the world answers and leaves: another client is never in the way, since there is none
+-- the client has a step to make
+abbrev pub CanStep : Next → Type 0
+CanStep (Stepped after) = Unit {0}
+CanStep Finished = ⊥
+CanStep Unknown = ⊥
+
+-- What a step of the world answers and leaves: another client is never in the way, since there is none. Memory is wanted only for a step that can be made.
 abbrev pub StepGives : State → ℕ → StepAnswer → State → Type 0
 StepGives old c answer.Stepped new = next old c ≡ Stepped new
 StepGives old c (answer.Blocked holder) new = ⊥
 StepGives old c answer.Finished new = (next old c ≡ Finished) × (new ≡ old)
 StepGives old c answer.Unknown new = (next old c ≡ Unknown) × (new ≡ old)
-StepGives old c answer.NoMemory new = new ≡ old
+StepGives old c answer.NoMemory new = CanStep (next old c) × (new ≡ old)
 
 abbrev pub new_client : Client
 new_client = record { done = 0; first = 0; phase = phase.Idle }

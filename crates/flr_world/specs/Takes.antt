@@ -83,11 +83,11 @@ pub record HasRightTakes (script : ScriptView) (schedule : List ℕ) (client num
   pub right : AreTakes script schedule client number opened at (file_at before.shared.files file).layout offset (offset + len) takes pieces
   pub joined : bytes ≡ take ((file_at before.shared.files file).size - offset) (flat_map (λ (p : List ℕ). p) pieces)
 
--- a read that answered bytes has right takes
+-- a read that answered bytes has right takes, and no other answer has takes
 abbrev pub IsAnswered : ScriptView → List ℕ → Entry → Reply → Type 0
 IsAnswered script schedule e (Bytes bytes) = (name : List ℕ) × (offset : ℕ) × (len : ℕ) × (command_of script e ≡ Some (Read name offset len))
     × HasRightTakes script schedule e.client e.number e.at e.takes name offset len bytes
-IsAnswered script schedule e reply = Unit {0}
+IsAnswered script schedule e reply = e.takes ≡ []
 
 abbrev pub EachAnswered : ScriptView → List ℕ → List Entry → Type 0
 EachAnswered script schedule [] = Unit {0}

@@ -11,6 +11,3 @@ mod world;
 pub use files::{Cookie, File, Layout};
 pub use target::{CallAnswer, CallEntry, CallKind, Target};
 pub use world::{StepAnswer, World};
-
-#[cfg(test)]
-mod tests;

@@ -26,7 +26,7 @@ or_true : (a b : Bool) → b ≡ true → a || b ≡ true
 or_true true b h = refl
 or_true false b h = h
 
-and_true : (b : Bool) → b && true ≡ b
+pub and_true : (b : Bool) → b && true ≡ b
 and_true true = refl
 and_true false = refl
 
@@ -55,7 +55,7 @@ any_kept_at p x ys rest kept false true hp h e = ap (λ b. b || list_any p ys) h
 any_kept_at p x ys rest kept false false hp h e = e
 
 -- a filter that keeps what the test finds, if it is meant to
-any_kept : (p q : Share → Bool) (kept : Bool) → ((x : Share) → p x ≡ true → q x ≡ kept) → (xs : List Share) → list_any p (filter q xs) ≡ list_any p xs && kept
+pub any_kept : (p q : Share → Bool) (kept : Bool) → ((x : Share) → p x ≡ true → q x ≡ kept) → (xs : List Share) → list_any p (filter q xs) ≡ list_any p xs && kept
 any_kept p q kept h [] = refl
 any_kept p q kept h (x ∷ xs) = any_kept_at p x (filter q xs) (list_any p xs) kept (p x) (q x) refl (h x) (any_kept p q kept h xs)
 

@@ -4,3 +4,5 @@ pub mod SoundLock
 pub mod Cookies
 pub mod SoundTable
 pub mod EventLaws
+pub mod CookiesOf
+pub mod Hands

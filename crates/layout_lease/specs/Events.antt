@@ -20,6 +20,12 @@ abbrev pub after_events : LockView → List Event → LockView
 after_events lock [] = lock
 after_events lock (event ∷ events) = after_events (after_event lock event) events
 
+-- the client whose cookies it is about
+abbrev pub client_of : Event → ℕ
+client_of (Shared client) = client
+client_of (Freed cookie) = cookie.client
+client_of (Evicted client) = client
+
 -- the cookie isn't given back by it
 abbrev pub LeavesCookie : Share → Event → Type 0
 LeavesCookie cookie (Shared client) = Unit {0}

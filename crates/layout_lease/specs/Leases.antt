@@ -51,9 +51,25 @@ key_for client file table = record { client = client; file = file; number = tabl
 abbrev pub taken : ℕ → ℕ → TableView → TableView
 taken client file table = record { keys = table.keys ++ lease_for client file table ∷ []; next = table.next + 1 }
 
+-- the key that a lease was taken with
+abbrev pub key_of : Lease → KeyView
+key_of lease = record { client = lease.client; file = lease.file; number = lease.number }
+
+-- two keys are the same
+abbrev pub same_key : KeyView → KeyView → Bool
+same_key key other = (other.number == key.number) && ((other.client == key.client) && (other.file == key.file))
+
 -- it is the lease of this key
 abbrev pub is_key : KeyView → Lease → Bool
-is_key key lease = (lease.number == key.number) && ((lease.client == key.client) && (lease.file == key.file))
+is_key key lease = same_key key (key_of lease)
+
+-- the keys that a client has in hand: those that it took and hasn't given back, broken or not
+abbrev pub hand_of : ℕ → TableView → List KeyView
+hand_of client table = map key_of (keys_of client table.keys)
+
+-- the keys but this one
+abbrev pub hand_but : KeyView → List KeyView → List KeyView
+hand_but key hand = filter (λ other. not (same_key key other)) hand
 
 -- whether the key's lease stands. A key that isn't of this table has none
 abbrev pub state_of : TableView → KeyView → KeyState

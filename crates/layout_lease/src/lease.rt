@@ -1,9 +1,9 @@
-ghost use Rattle.std.specs.Prelude.{◌≡◌, ◌-◌, ◌^◌, ◌<◌, ◌≤◌, [], IfOk, OnErr, OnOk, filter, find, length, map, not, option_map, take};
+ghost use Rattle.std.specs.Prelude.{◌≡◌, ◌≢◌, ℕ, ◌-◌, ◌^◌, ◌<◌, ◌≤◌, [], ◌∷◌, ◌++◌, Some, None, IfOk, OnErr, OnOk, filter, find, length, map, not, option_map, take};
 ghost use Rattle.std.specs.Option.{option_map_or};
 ghost use Rattle.std.specs.Result.{result_err};
 ghost use Rattle.layout_lease.specs.Clients.{IsClient};
-ghost use Rattle.layout_lease.specs.Leases.{broken_at, broken_by, broken_if, broken_of_client, broken_of_file, evicted_by, given, holder_of, is_key, is_lease_of, IsSoundTable, KeyView, key_for, keys_of, new_table, state_of, taken};
-ghost use Rattle.layout_lease.specs.declared.lease.KeyState.TheVariants.{Broken};
+ghost use Rattle.layout_lease.specs.Leases.{broken_at, broken_by, broken_if, broken_of_client, broken_of_file, evicted_by, given, hand_but, hand_of, holder_of, is_key, is_lease_of, IsSoundTable, KeyView, key_for, keys_of, new_table, state_of, taken};
+ghost use Rattle.layout_lease.specs.declared.lease.KeyState.TheVariants.{Broken, Held};
 
 use std::marker::Model;
 
@@ -88,6 +88,22 @@ impl Model for LeaseKey {
     ghost view = { λ key. record { client = key.client; file = key.file; number = key.number } };
 }
 
+impl LeaseKey {
+    /// The client that took the lease.
+    pub fn client(&self) -> u8
+        ensures same { result ≡ self.now.client }
+    {
+        self.client
+    }
+
+    /// The file whose lease was taken.
+    pub fn file(&self) -> u32
+        ensures same { result ≡ self.now.file }
+    {
+        self.file
+    }
+}
+
 /// The leases of all files. Contracts see it as the list of the keys that were taken and not given
 /// back, in the order in which they were taken, and the number of the next key, which rises by one
 /// with each. A client has at most two keys, and a file at most one unbroken lease.
@@ -137,6 +153,7 @@ impl LeaseTable {
         ensures busy { result_err result ≡ holder_of self.old file }
         ensures key { IfOk result (λ key. key ≡ key_for client file self.old) }
         ensures taken { OnOk result (self.new ≡ taken client file self.old) }
+        ensures hand { OnOk result (hand_of client self.new ≡ hand_of client self.old ++ key_for client file self.old ∷ []) }
         ensures unchanged { OnErr result (self.new ≡ self.old) }
         ensures sound { IsSoundTable self.new }
     {
@@ -186,6 +203,7 @@ impl LeaseTable {
     pub fn break_by(&mut self, file: u32, step: u32)
         ensures broken { self.new ≡ broken_by file step self.old }
         ensures sound { IsSoundTable self.new }
+        ensures none { holder_of self.new file ≡ None }
     {
         break_file(&mut self.leases, file, step);
     }
@@ -194,6 +212,7 @@ impl LeaseTable {
     pub fn evict(&mut self, client: u8, step: u32)
         ensures evicted { self.new ≡ evicted_by client step self.old }
         ensures sound { IsSoundTable self.new }
+        ensures none { (file : ℕ) → holder_of self.new file ≢ Some client }
     {
         break_client(&mut self.leases, client, step);
     }
@@ -213,6 +232,11 @@ impl LeaseTable {
     pub fn give(&mut self, key: LeaseKey)
         ensures given { self.new ≡ given key self.old }
         ensures sound { IsSoundTable self.new }
+
+        // It is in nobody's hand, and where its lease stood nobody has the file's.
+        ensures hand { (client : ℕ) → hand_of client self.new ≡ hand_but key (hand_of client self.old) }
+        ensures last { hand_of key.client self.old ≡ key ∷ [] → hand_of key.client self.new ≡ [] }
+        ensures free { state_of self.old key ≡ Held → holder_of self.new key.file ≡ None }
     {
         self.len = keep_but(&mut self.leases, self.len, &key);
     }

@@ -8,12 +8,11 @@
 #![tactic(auto)]
 
 mod history;
+mod holders;
 mod lease;
 mod shared;
 
 pub use history::only_evictions_take_cookies;
+pub use holders::{cookies_in_hand, holders_of_leases, keys_in_hand, states_of_keys};
 pub use lease::{KeyState, Lease, LeaseKey, LeaseTable};
 pub use shared::{Cookie, LayoutLock, Share};
-
-#[cfg(test)]
-mod tests;

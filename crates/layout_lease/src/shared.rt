@@ -1,4 +1,4 @@
-ghost use Rattle.std.specs.Prelude.{◌≡◌, ◌-◌, ◌^◌, ◌<◌, ◌≤◌, ◌==◌, ◌↔◌, [], IsTrue, Contains, filter, length, map, not, take};
+ghost use Rattle.std.specs.Prelude.{◌≡◌, ◌-◌, ◌^◌, ◌<◌, ◌≤◌, ◌==◌, ◌↔◌, [], ◌∷◌, if◌then◌else◌, IsTrue, Contains, filter, length, map, not, take};
 ghost use Rattle.std.specs.List.{list_any};
 ghost use Rattle.layout_lease.specs.Clients.{IsClient};
 ghost use Rattle.layout_lease.specs.Shares.{cookie_for, cookies_but, cookies_of, evicted, freed, IsSoundLock, is_held, lowest, lowest_but, new_lock, same_cookie, shared, with_lower};
@@ -85,6 +85,7 @@ impl LayoutLock {
         ensures cookie { result ≡ cookie_for client self.old }
         ensures shared { self.new ≡ shared client self.old }
         ensures sound { IsSoundLock self.new }
+        ensures only { cookies_of client self.new.cookies ≡ result ∷ [] }
     {
         let share = Share {
             client,
@@ -111,6 +112,10 @@ impl LayoutLock {
         ensures listed { IsTrue result ↔ Contains self.old.cookies cookie }
         ensures freed { self.new ≡ freed cookie self.old }
         ensures sound { IsSoundLock self.new }
+
+        // A client that held it has none now, and one that didn't has what it had.
+        ensures own { cookies_of cookie.client self.new.cookies
+            ≡ (if result then [] else cookies_of cookie.client self.old.cookies) }
     {
         let held = self.holds(&cookie);
         self.len = keep_but(&mut self.shares, self.len, cookie.share);
@@ -129,6 +134,7 @@ impl LayoutLock {
     pub fn evict(&mut self, client: u8)
         ensures evicted { self.new ≡ evicted client self.old }
         ensures sound { IsSoundLock self.new }
+        ensures none { cookies_of client self.new.cookies ≡ [] }
     {
         self.len = keep_others(&mut self.shares, self.len, client);
     }

@@ -14,3 +14,4 @@ pub mod TakenLaws
 pub mod MergeLaws
 pub mod StayLaws
 pub mod ChangeLaws
+pub mod Listing

@@ -86,7 +86,6 @@ pub(crate) fn count_mirrors(layout: &Layout) -> u32
 }
 
 /// So many ids, from the first on.
-#[tactic(auto, using(crate::proofs::MirrorLaws::range_more))]
 pub(crate) fn ids_from(alloc: Global, first: u32, count: u32) -> Result<Ids, NoMemory>
     requires { first + count ≤ 65536 }
     ensures { IfOk result (λ ids. ids ≡ range_with_len first count) }
@@ -99,7 +98,7 @@ pub(crate) fn ids_from(alloc: Global, first: u32, count: u32) -> Result<Ids, NoM
 }
 
 /// How many components the mirrors of a spec have.
-fn count_parts(mirrors: &[MirrorSpec]) -> u32
+pub(crate) fn count_parts(mirrors: &[MirrorSpec]) -> u32
     requires { IsSpec mirrors.now }
     ensures { result ≡ part_count mirrors.now }
 {

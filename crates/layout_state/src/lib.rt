@@ -15,6 +15,7 @@ mod marks;
 mod merging;
 mod mirror_laws;
 mod objects;
+mod refusals;
 mod remove;
 mod select;
 
@@ -33,12 +34,6 @@ pub use marks::{done, set_flags};
 pub use merging::merge;
 pub use mirror_laws::{generations_grow, mirrors_stay_as_fresh, what_mirrors_keep};
 pub use objects::begin;
+pub use refusals::{add_refusal, merge_refusal, remove_refusal, set_refusal};
 pub use remove::remove_mirror;
 pub use select::selected;
-
-#[cfg(test)]
-mod choice_tests;
-#[cfg(test)]
-mod mark_tests;
-#[cfg(test)]
-mod mirror_tests;

@@ -23,6 +23,8 @@ impl Model for ObjectMaker {
 }
 
 impl ObjectMaker {
+    ghost use Rattle.std.specs.Prelude.{ℕ, ◌-◌, ◌^◌, IsTrue, nat_lt, slice_index};
+    ghost use Rattle.std.specs.List.{list_all};
     ghost use Rattle.layout_state.specs.Making.{AreNext};
 
     /// On so many targets, 1 to 64, no object was made yet.
@@ -34,7 +36,23 @@ impl ObjectMaker {
         Ok(ObjectMaker { next })
     }
 
-    /// The next number of each target.
+    /// Whether the next numbers are so low that each change may make its objects.
+    pub fn has_room(&self) -> bool
+        ensures says { result ≡ list_all (λ number. nat_lt number (2 ^ 32 - 8388608)) self.now }
+        ensures room { IsTrue result → (target : ℕ) → slice_index self.now target < 2 ^ 32 - 8388608 }
+    {
+        self.next.iter().all(|number| *number < 4286578688)
+    }
+
+    /// The same numbers once more.
+    pub fn copy(&self) -> Result<ObjectMaker, NoMemory>
+        ensures same { IfOk result (λ copy. copy ≡ self.now) }
+    {
+        let next = self.numbers()?;
+        Ok(ObjectMaker { next })
+    }
+
+    /// A copy of the next numbers.
     pub(crate) fn numbers(&self) -> Result<Vec<u32>, NoMemory>
         ensures same { IfOk result (λ numbers. numbers.items ≡ self.now) }
         ensures next { AreNext self.now }

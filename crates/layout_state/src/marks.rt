@@ -97,7 +97,11 @@ pub fn set_flags(layout: &mut Layout, id: u32, change: FlagChange) -> Result<(),
     }
 }
 
-fn flags_refusal(components: &[Component], id: u32, change: FlagChange) -> Option<StateError>
+pub(crate) fn flags_refusal(
+    components: &[Component],
+    id: u32,
+    change: FlagChange,
+) -> Option<StateError>
     ensures { result ≡ flags_refusal id change components.now }
 {
     match mirror_of(components, id) {

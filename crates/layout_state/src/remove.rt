@@ -42,7 +42,7 @@ pub fn remove_mirror(layout: &mut Layout, mirror: u16) -> Result<Option<Layout>,
 
 /// Why the mirror can't go.
 #[tactic(auto, using(crate::proofs::LeaveLaws::fresh_beside))]
-fn keeping(layout: &Layout, mirror: u16) -> Option<StateError>
+pub(crate) fn keeping(layout: &Layout, mirror: u16) -> Option<StateError>
     ensures { result ≡ keeping mirror layout.now.components }
 {
     if !has_mirror(layout.components(), u32::from(mirror)) {

@@ -40,7 +40,7 @@ used_map : (q : ℕ) (seen : List Component) → list_any (eqb q) (map counter_o
 used_map q [] = refl
 used_map q (d ∷ ds) = ap (λ (b : Bool). eqb q (counter_of d) || b) (used_map q ds)
 
-decide : (a b : ℕ) → (a ≤ b) ⊎ (b < a)
+pub decide : (a b : ℕ) → (a ≤ b) ⊎ (b < a)
 decide a b = elim (cases_lt b a) as (λ _. (a ≤ b) ⊎ (b < a)) [ inl lt ↦ inr lt | inr le ↦ inl le ]
 
 abbrev Unused : List Component → ℕ → Type 0

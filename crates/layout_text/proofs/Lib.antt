@@ -1,4 +1,5 @@
 pub mod PrintLaws
+pub mod FlagFronts
 pub mod WordLaws
 pub mod Coming
 pub mod Lasting
@@ -6,4 +7,6 @@ pub mod OneSpellings
 pub mod LineTexts
 pub mod HeadLaws
 pub mod ReadLaws
+pub mod FrontLaws
+pub mod Nesting
 pub mod Held

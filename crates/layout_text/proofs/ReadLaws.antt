@@ -1,18 +1,18 @@
 -- The reader finds the first line at which no valid layout's text goes on.
-use Rattle.std.proofs.Common.{◌≡◌, ℕ, ◌+◌, ◌-◌, ◌^◌, ◌<◌, ◌≤◌, Bool, true, false, cond, eqb, List, [], ◌∷◌, ◌++◌, length, map, Option, Some, None, Result, Ok, Err, refl, sym, ap, subst, ◌∙◌, append_assoc, arith}
+use Rattle.std.proofs.Common.{◌≡◌, ℕ, ◌+◌, ◌^◌, ◌<◌, ◌≤◌, Bool, true, false, cond, eqb, List, [], ◌∷◌, ◌++◌, length, map, Option, Some, None, Result, Ok, Err, refl, sym, ap, subst, ◌∙◌, append_assoc, arith}
 use Rattle.std.specs.Prelude.{option_and_then, MatchResult}
 use Rattle.std.specs.List.{AllByRecursion}
-use Rattle.std.proofs.lemmas.Bool.{cond_both, eqb-true, eqb-false}
+use Rattle.std.proofs.lemmas.Bool.{cond_both, eqb-true}
 use Rattle.std.proofs.lemmas.List.{append-nil}
 use Rattle.flr_base.specs.Faults.{IsFirstFault}
-use Rattle.flr_base.specs.Reading.{reads, after}
+use Rattle.flr_base.specs.Reading.{reads}
 use Rattle.flr_base.specs.declared.reply.ObjectId.{ObjectId}
 use Rattle.flr_base.proofs.Machine.{run, Reads}
-use Rattle.flr_base.proofs.Reader.{ok_of, ok_step, first_fault, read_stands, ends_early, ok_run, run_ok}
+use Rattle.flr_base.proofs.Reader.{ok_of, ok_step, read_stands, ok_run, run_ok}
 use Rattle.flr_base.proofs.Residual.{Residual, Leads, residual_reads}
 use Rattle.flr_base.proofs.Spelled.{Spelled, line_by, line_step, line_reads}
 use Rattle.text_words.specs.Items.{IsObjectItem}
-use Rattle.text_words.specs.Lines.{lines_of, unended}
+use Rattle.text_words.specs.Lines.{lines_of}
 use Rattle.text_words.proofs.LineLaws.{text-lines}
 use Rattle.composite_layout.specs.declared.component.Component.{Component}
 use Rattle.composite_layout.specs.declared.component.State.TheVariants as states
@@ -30,7 +30,7 @@ use Rattle.layout_text.specs.LineWords.{line_of}
 use Rattle.layout_text.specs.declared.error.TextError.{TextError}
 use Rattle.layout_text.specs.declared.error.TextError.TheVariants.{Bad, NoMemory}
 use Rattle.layout_text.specs.Spelling.{IsSpellable, Spells, AreLines, IsFault, IsNoMemory}
-use Rattle.layout_text.specs.Viable.{head_of, component, layout_lines, AreLayout, can_go_on, fits, moved, begin, is_good, State, going, next, stated, step, IsSmall, layout_of, complete}
+use Rattle.layout_text.specs.Viable.{head_of, component, layout_lines, AreLayout, can_go_on, fits, moved, begin, is_good, State, going, next, stated, step, layout_of, complete}
 use Rattle.layout_text.proofs.Coming.{CanGoOn, from_test, to_test, Rest, alive, from_fits, to_fits, back, on, moved_end, fits_left}
 use Rattle.layout_text.proofs.Lasting.{Keeps, keeps, lives, moved_left, moved_head, ended}
 use Rattle.layout_text.proofs.LineTexts.{print, IsHeld, IsHeldHead, IsHeldLine, one_spelling}
@@ -51,7 +51,7 @@ abbrev pub start : State
 start = (Start, [])
 
 -- one step to a place
-record Went (b : Bool) (p : Place) (seen : List Component) (t : State) : Type 0 where
+pub record Went (b : Bool) (p : Place) (seen : List Component) (t : State) : Type 0 where
   pub passed : b ≡ true
   pub viable : CanGoOn p
   pub there : t ≡ (Going p, seen)
@@ -60,14 +60,14 @@ went_on : (p : Place) (seen : List Component) (t : State) (b : Bool) → can_go_
 went_on p seen t true e h = let same : (Going p, seen) ≡ t = cc in (from_test p e, sym same)
 went_on p seen t false e h = absurd cc
 
-went : (p : Place) (seen : List Component) (t : State) (b : Bool) → ok_of (stated (cond b (going p) (Err (record {}))) seen) ≡ Some t → Went b p seen t
+pub went : (p : Place) (seen : List Component) (t : State) (b : Bool) → ok_of (stated (cond b (going p) (Err (record {}))) seen) ≡ Some t → Went b p seen t
 went p seen t true h = let w = went_on p seen t (can_go_on p) refl h in record { passed = refl; viable = w.0; there = w.1 }
 went p seen t false h = absurd cc
 
 goes : (p : Place) (seen : List Component) (b : Bool) → b ≡ true → CanGoOn p → ok_of (stated (cond b (going p) (Err (record {}))) seen) ≡ Some (Going p, seen)
 goes p seen b e v = rw (e, to_test p v) refl
 
-kept : (s t : State) (x : Line) → LineKeeps s → ok_step step s x ≡ Some t → LineKeeps t
+pub kept : (s t : State) (x : Line) → LineKeeps s → ok_step step s x ≡ Some t → LineKeeps t
 kept (Start, seen) t (lines.Head h) k e =
     let w = went (begin h) seen t (is_good h) e in
     let none : seen ≡ [] = k in
@@ -82,7 +82,7 @@ kept (Going p, seen) t (lines.Component c) k e =
 same_head : (h : Head) (cs : List Component) → h.count ≡ length cs → h ≡ head_of (layout_of h cs)
 same_head h cs e = ap (λ (n : ℕ). record { generation = h.generation; state = h.state; next_mirror = h.next_mirror; next_counter = h.next_counter; count = n }) e
 
-behind : (s t : State) (x : Line) (ls : List Line) → LineKeeps s → ok_step step s x ≡ Some t → LineRest t ls → LineRest s (x ∷ ls)
+pub behind : (s t : State) (x : Line) (ls : List Line) → LineKeeps s → ok_step step s x ≡ Some t → LineRest t ls → LineRest s (x ∷ ls)
 behind (Start, seen) t (lines.Head h) ls k e r =
     let w = went (begin h) seen t (is_good h) e in
     let m : LineRest (Going (begin h), seen) ls = subst (λ (u : State). LineRest u ls) w.there r in
@@ -96,7 +96,7 @@ behind (Going p, seen) t (lines.Component c) ls k e r =
     let m : LineRest (Going (moved p c), seen ++ c ∷ []) ls = subst (λ (u : State). LineRest u ls) w.there r in
     (c ∷ m.0, back p seen m.0 c k.ends (from_fits p seen c w.passed) m.1, ap (λ (xs : List Line). component c ∷ xs) m.2)
 
-abbrev Onward : State → Line → List Line → Type 0
+abbrev pub Onward : State → Line → List Line → Type 0
 Onward s x ls = (t : State) × (ok_step step s x ≡ Some t) × LineRest t ls
 
 onward_head : (seen : List Component) (l : Composite) (x : Line) (ls : List Line) → seen ≡ [] → IsSpellable l → x ∷ ls ≡ layout_lines l → Onward (Start, seen) x ls
@@ -118,7 +118,7 @@ onward_component p seen (c ∷ cs) x ls k r e =
     let step_is : ok_step step (Going p, seen) x ≡ Some (Going (moved p c), seen ++ c ∷ []) = rw head (goes (moved p c) (seen ++ c ∷ []) (fits p seen c) (to_fits p seen c o.0) viable) in
     ((Going (moved p c), seen ++ c ∷ []), step_is, (cs, o.1, tail))
 
-onward : (s : State) (x : Line) (ls : List Line) → LineKeeps s → LineRest s (x ∷ ls) → Onward s x ls
+pub onward : (s : State) (x : Line) (ls : List Line) → LineKeeps s → LineRest s (x ∷ ls) → Onward s x ls
 onward (Start, seen) x ls k r = onward_head seen r.0 x ls k r.1 r.2
 onward (Going p, seen) x ls k r = onward_component p seen r.0 x ls k r.1 r.2
 
@@ -158,11 +158,11 @@ least_valid = record {
   objects = (tt, tt);
 }
 
-alive_state : (s : State) → LineKeeps s → (ls : List Line) × LineRest s ls
+pub alive_state : (s : State) → LineKeeps s → (ls : List Line) × LineRest s ls
 alive_state (Start, seen) k = (layout_lines least_layout, (least_layout, least_valid, refl))
 alive_state (Going p, seen) k = let m = lives p seen k in (map component m.0, (m.0, m.1, refl))
 
-layout_residual : Residual (ok_step step) start AreLayout LineRest LineKeeps
+pub layout_residual : Residual (ok_step step) start AreLayout LineRest LineKeeps
 layout_residual = record {
   first = refl;
   keeps = kept;
@@ -237,7 +237,7 @@ held_map : (cs : List Component) → AllByRecursion IsHeld cs → AllByRecursion
 held_map [] all = tt
 held_map (c ∷ cs) all = (all.0, held_map cs all.1)
 
-held_lines : (ls : List Line) → AreLayout ls → AllByRecursion IsHeldLine ls
+pub held_lines : (ls : List Line) → AreLayout ls → AllByRecursion IsHeldLine ls
 held_lines ls (l, s, e) = subst (λ (xs : List Line). AllByRecursion IsHeldLine xs) (sym e) (held_head l s, held_map l.components (held_components l s))
 
 -- ---- the machine over lines of text
@@ -245,13 +245,13 @@ held_lines ls (l, s, e) = subst (λ (xs : List Line). AllByRecursion IsHeldLine 
 abbrev pub text_step : State → Option (List ℕ) → Result State Unfit
 text_step s y = line_step line_of (record {}) step s y
 
-abbrev LeadsTo : State → List Line → Type 0
+abbrev pub LeadsTo : State → List Line → Type 0
 LeadsTo s ls = Leads AreLayout LineRest LineKeeps s ls
 
-abbrev AreTexts : List (Option (List ℕ)) → Type 0
+abbrev pub AreTexts : List (Option (List ℕ)) → Type 0
 AreTexts ys = Spelled print AreLayout ys
 
-reads_texts : Reads (ok_step (line_step line_of (record {}) step)) start (Spelled print AreLayout) (λ s ys. Spelled print (LeadsTo s) ys)
+pub reads_texts : Reads (ok_step (line_step line_of (record {}) step)) start (Spelled print AreLayout) (λ s ys. Spelled print (LeadsTo s) ys)
 reads_texts = line_reads step (record {}) start AreLayout LeadsTo line_of print IsHeldLine (residual_reads layout_residual) one_spelling held_lines
 
 -- the lines as records are those as texts
@@ -259,16 +259,16 @@ printed_parts : (cs : List Component) → map print (map component cs) ≡ map (
 printed_parts [] = refl
 printed_parts (c ∷ cs) = ap (λ (ys : List (Option (List ℕ))). Some (component_line c) ∷ ys) (printed_parts cs)
 
-printed : (l : Composite) → map print (layout_lines l) ≡ map (λ line. Some line) (head_line l ∷ map component_line l.components)
+pub printed : (l : Composite) → map print (layout_lines l) ≡ map (λ line. Some line) (head_line l ∷ map component_line l.components)
 printed l = ap (λ (ys : List (Option (List ℕ))). Some (head_line l) ∷ ys) (printed_parts l.components)
 
-to_texts : (ys : List (Option (List ℕ))) → AreLines ys → AreTexts ys
+pub to_texts : (ys : List (Option (List ℕ))) → AreLines ys → AreTexts ys
 to_texts ys (l, s, e) = (layout_lines l, (l, s, refl), e ∙ sym (printed l))
 
-from_texts : (ys : List (Option (List ℕ))) → AreTexts ys → AreLines ys
+pub from_texts : (ys : List (Option (List ℕ))) → AreTexts ys → AreLines ys
 from_texts ys h = (h.1.0, h.1.1, h.2 ∙ ap (map print) h.1.2 ∙ printed h.1.0)
 
-same_fault : {A : Type 0} (L M : List A → Type 0) (xs : List A) (at : ℕ) → ((ys : List A) → L ys → M ys) → ((ys : List A) → M ys → L ys) → IsFirstFault L xs at → IsFirstFault M xs at
+pub same_fault : {A : Type 0} (L M : List A → Type 0) (xs : List A) (at : ℕ) → ((ys : List A) → L ys → M ys) → ((ys : List A) → M ys → L ys) → IsFirstFault L xs at → IsFirstFault M xs at
 same_fault L M xs at there back f = record {
   within = f.within;
   begins = (f.begins.0, there _ f.begins.1);
@@ -278,7 +278,7 @@ same_fault L M xs at there back f = record {
 
 -- ---- what the lines say is what was read
 
-bind_some : {S T : Type 0} (f : S → Option T) (o : Option S) (t : T) → option_and_then f o ≡ Some t → (s : S) × (o ≡ Some s) × (f s ≡ Some t)
+pub bind_some : {S T : Type 0} (f : S → Option T) (o : Option S) (t : T) → option_and_then f o ≡ Some t → (s : S) × (o ≡ Some s) × (f s ≡ Some t)
 bind_some f None t e = absurd cc
 bind_some f (Some s) t e = (s, refl, e)
 
@@ -302,10 +302,10 @@ after_all p seen (c ∷ cs) t all e =
     let count = ih.3 in
     (ih.0, subst (λ (xs : List Component). t ≡ (Going ih.0, xs)) (append_assoc seen (c ∷ []) cs) ih.1, ih.2 ∙ moved_head p c, omega (arith, some, left, count))
 
-abbrev ReadAs : Composite → State → Type 0
+abbrev pub ReadAs : Composite → State → Type 0
 ReadAs l s = (q : Place) × (s ≡ (Going q, l.components)) × (q.head ≡ head_of l) × (q.left ≡ 0)
 
-read_as : (ys : List (Option (List ℕ))) (l : Composite) (s : State) → IsSpellable l → ys ≡ map print (layout_lines l) → run (ok_step text_step) start ys ≡ Some s → ReadAs l s
+pub read_as : (ys : List (Option (List ℕ))) (l : Composite) (s : State) → IsSpellable l → ys ≡ map print (layout_lines l) → run (ok_step text_step) start ys ≡ Some s → ReadAs l s
 read_as ys l s sp is e =
     let h = head_of l in
     let from_head : run (ok_step text_step) start (print (lines.Head h) ∷ map print (map component l.components)) ≡ Some s = subst (λ (xs : List (Option (List ℕ))). run (ok_step text_step) start xs ≡ Some s) is e in
@@ -316,10 +316,10 @@ read_as ys l s sp is e =
     let count = a.3 in
     (a.0, a.1, a.2, omega (arith, count))
 
-same_layout : (l : Composite) (h : Head) (cs : List Component) → h ≡ head_of l → cs ≡ l.components → layout_of h cs ≡ l
+pub same_layout : (l : Composite) (h : Head) (cs : List Component) → h ≡ head_of l → cs ≡ l.components → layout_of h cs ≡ l
 same_layout l h cs a b = rw (a, b) refl
 
-found : (ys : List (Option (List ℕ))) (p : Place) (seen : List Component) → reads text_step 0 start ys ≡ Ok (Going p, seen) → p.left ≡ 0 → IsSpellable (layout_of p.head seen) × (ys ≡ map print (layout_lines (layout_of p.head seen)))
+pub found : (ys : List (Option (List ℕ))) (p : Place) (seen : List Component) → reads text_step 0 start ys ≡ Ok (Going p, seen) → p.left ≡ 0 → IsSpellable (layout_of p.head seen) × (ys ≡ map print (layout_lines (layout_of p.head seen)))
 found ys p seen e none =
     let stands = read_stands text_step reads_texts ys (Going p, seen) e in
     let leads = stands.1 in
@@ -341,7 +341,7 @@ found ys p seen e none =
 lines_of_text : (text : List ℕ) (l : Composite) → Spells text l → lines_of text ≡ map print (layout_lines l)
 lines_of_text text l (s, e) = ap lines_of e ∙ lines_of-layout l ∙ sym (printed l)
 
-text_of_lines : (text : List ℕ) (l : Composite) → lines_of text ≡ map print (layout_lines l) → text ≡ text_of_layout l
+pub text_of_lines : (text : List ℕ) (l : Composite) → lines_of text ≡ map print (layout_lines l) → text ≡ text_of_layout l
 text_of_lines text l e = text-lines text (head_line l ∷ map component_line l.components) (e ∙ printed l)
 
 -- a text of a layout is read as it
@@ -368,156 +368,21 @@ one_layout text l m a b =
     let head : head_of l ≡ head_of m = sym p.2 ∙ ap (λ (x : Place). x.head) place ∙ q.2 in
     sym (same_layout l (head_of l) l.components refl refl) ∙ same_layout m (head_of l) l.components head components
 
--- ---- for the loop
+-- ---- for the code
 
--- no more lines are taken than a layout has
-abbrev pub IsEarly : ℕ → Phase → Type 0
-IsEarly taken Start = taken ≡ 0
-IsEarly taken (Going p) = taken + p.left ≤ 65536
-
-pub record SoFar (text : List ℕ) (taken : ℕ) (phase : Phase) (seen : List Component) (rest : List ℕ) : Type 0 where
-  pub same : reads text_step taken (phase, seen) (lines_of rest) ≡ reads text_step 0 start (lines_of text)
-  pub count : taken + length (lines_of rest) ≡ length (lines_of text)
-  pub small : IsSmall phase
-  pub early : IsEarly taken phase
-
-pub so_far_first : (text : List ℕ) → SoFar text 0 Start [] text
-so_far_first text = record { same = refl; count = omega arith; small = tt; early = refl }
-
-early_step : (taken : ℕ) (phase : Phase) (seen : List Component) (x : Line) (after' : Phase) (seen' : List Component) → IsEarly taken phase → step (phase, seen) x ≡ Ok (after', seen') → IsEarly (taken + 1) after'
-early_step taken Start seen (lines.Head h) after' seen' k e =
-    let w = went (begin h) seen (after', seen') (is_good h) (ap (λ (r : Result State Unfit). ok_of r) e) in
-    let g = from_good h w.passed in
-    let enough = g.enough in
-    let most_ids = g.few in
-    let there : State = (after', seen') in
-    let here : State = (Going (begin h), seen) in
-    let same : there ≡ here = w.there in
-    let is : after' ≡ Going (begin h) = ap (λ (u : State). u.0) same in
-    rw is (omega (arith, k, enough, most_ids))
-early_step taken Start seen (lines.Component c) after' seen' k e = absurd cc
-early_step taken (Going p) seen (lines.Head h) after' seen' k e = absurd cc
-early_step taken (Going p) seen (lines.Component c) after' seen' k e =
-    let w = went (moved p c) (seen ++ c ∷ []) (after', seen') (fits p seen c) (ap (λ (r : Result State Unfit). ok_of r) e) in
-    let some = fits_left p seen c w.passed in
-    let left = moved_left p c in
-    let there : State = (after', seen') in
-    let here : State = (Going (moved p c), seen ++ c ∷ []) in
-    let same : there ≡ here = w.there in
-    let is : after' ≡ Going (moved p c) = ap (λ (u : State). u.0) same in
-    rw is (omega (arith, k, some, left))
-
-text_step_is : (s : State) (line : List ℕ) (x : Line) → line_of (Some line) ≡ Some x → text_step s (Some line) ≡ step s x
+pub text_step_is : (s : State) (line : List ℕ) (x : Line) → line_of (Some line) ≡ Some x → text_step s (Some line) ≡ step s x
 text_step_is s line x e = ap (λ (o : Option Line). line_by (record {}) (step s) o) e
 
-pub so_far_more : (text : List ℕ) (taken : ℕ) (phase after' : Phase) (seen seen' : List Component) (rest line more : List ℕ) → SoFar text taken phase seen rest → lines_of rest ≡ Some line ∷ lines_of more
-    → (x : Line) × (line_of (Some line) ≡ Some x) × (step (phase, seen) x ≡ Ok (after', seen')) → IsSmall after' → SoFar text (taken + 1) after' seen' more
-so_far_more text taken phase after' seen seen' rest line more h e (x, l, g) small =
-    let count = h.count in
-    let size = ap (λ (ys : List (Option (List ℕ))). length ys) e in
-    record {
-      same = sym (ap (λ (r : Result State Unfit). after r taken (λ u. reads text_step (taken + 1) u (lines_of more))) (text_step_is (phase, seen) line x l ∙ g)) ∙ ap (reads text_step taken (phase, seen)) (sym e) ∙ h.same;
-      count = omega (arith, count, size);
-      small = small;
-      early = early_step taken phase seen x after' seen' h.early g;
-    }
-
-stuck : (text : List ℕ) (taken : ℕ) (s : State) (y : Option (List ℕ)) (ys : List (Option (List ℕ))) → reads text_step taken s (y ∷ ys) ≡ reads text_step 0 start (lines_of text) → text_step s y ≡ Err (record {}) → IsFirstFault AreLines (lines_of text) taken
-stuck text taken s y ys same e =
-    same_fault AreTexts AreLines (lines_of text) taken from_texts to_texts
-    (first_fault text_step reads_texts (lines_of text) None taken (record {}) (sym same ∙ ap (λ (r : Result State Unfit). after r taken (λ u. reads text_step (taken + 1) u ys)) e))
-
-unread : (s : State) (o : Option Line) → ((x : Line) → o ≡ Some x → step s x ≡ Err (record {})) → line_by (record {}) (step s) o ≡ Err (record {})
-unread s None h = refl
-unread s (Some x) h = h x refl
-
--- the line goes on no valid layout's text
-so_far_fault : (text : List ℕ) (taken : ℕ) (phase : Phase) (seen : List Component) (rest line more : List ℕ) → SoFar text taken phase seen rest → lines_of rest ≡ Some line ∷ lines_of more
-    → ((x : Line) → line_of (Some line) ≡ Some x → step (phase, seen) x ≡ Err (record {})) → IsFirstFault AreLines (lines_of text) taken
-so_far_fault text taken phase seen rest line more h e g =
-    stuck text taken (phase, seen) (Some line) (lines_of more) (ap (reads text_step taken (phase, seen)) (sym e) ∙ h.same) (unread (phase, seen) (line_of (Some line)) g)
-
--- bytes that no byte 10 ends
-so_far_unended : (text : List ℕ) (taken : ℕ) (phase : Phase) (seen : List Component) (rest : List ℕ) → SoFar text taken phase seen rest → lines_of rest ≡ unended rest → (rest ≡ [] → ⊥) → IsFirstFault AreLines (lines_of text) taken
-so_far_unended text taken phase seen [] h e some = absurd (some refl)
-so_far_unended text taken phase seen (c ∷ cs) h e some = stuck text taken (phase, seen) None [] (ap (reads text_step taken (phase, seen)) (sym e) ∙ h.same) refl
-
-abbrev IsUndone : Phase → Type 0
-IsUndone Start = Unit {0}
-IsUndone (Going p) = p.left ≡ 0 → ⊥
-
-undone : (phase : Phase) (q : Place) → IsUndone phase → phase ≡ Going q → q.left ≡ 0 → ⊥
-undone Start q u e none = absurd cc
-undone (Going p) q u e none = let place : p ≡ q = cc in u (ap (λ (x : Place). x.left) place ∙ none)
-
-all_read : (text : List ℕ) (taken : ℕ) (phase : Phase) (seen : List Component) (rest : List ℕ) → SoFar text taken phase seen rest → rest ≡ [] → (reads text_step 0 start (lines_of text) ≡ Ok (phase, seen)) × (taken ≡ length (lines_of text))
-all_read text taken phase seen rest h e =
-    let count = h.count in
-    let none : lines_of rest ≡ [] = ap lines_of e in
-    let size = ap (λ (ys : List (Option (List ℕ))). length ys) none in
-    (sym h.same ∙ ap (reads text_step taken (phase, seen)) none, omega (arith, count, size))
-
--- the lines end early
-so_far_early : (text : List ℕ) (taken : ℕ) (phase : Phase) (seen : List Component) (rest : List ℕ) → SoFar text taken phase seen rest → rest ≡ [] → IsUndone phase → IsFirstFault AreLines (lines_of text) taken
-so_far_early text taken phase seen rest h e u =
-    let a = all_read text taken phase seen rest h e in
-    same_fault AreTexts AreLines (lines_of text) taken from_texts to_texts
-    (subst (λ (n : ℕ). IsFirstFault AreTexts (lines_of text) n) (sym a.1)
-    (ends_early text_step reads_texts (lines_of text) (phase, seen) a.0 (λ is.
-    let s = read_as (lines_of text) is.1.0 (phase, seen) is.1.1 (is.2 ∙ ap (map print) is.1.2) (ok_run text_step 0 start (phase, seen) (lines_of text) a.0) in
-    let there : State = (phase, seen) in
-    let here : State = (Going s.0, is.1.0.components) in
-    let same : there ≡ here = s.1 in
-    undone phase s.0 u (ap (λ (v : State). v.0) same) s.3)))
-
--- all the components have come
-so_far_whole : (text : List ℕ) (taken : ℕ) (phase : Phase) (p : Place) (seen : List Component) (rest : List ℕ) → SoFar text taken phase seen rest → rest ≡ [] → phase ≡ Going p → p.left ≡ 0 → Spells text (layout_of p.head seen)
-so_far_whole text taken phase p seen rest h e is none =
-    let a = all_read text taken phase seen rest h e in
-    let f = found (lines_of text) p seen (a.0 ∙ ap (λ (q : Phase). Ok (q, seen)) is) none in
-    (f.0, text_of_lines text (layout_of p.head seen) f.1)
-
-bad_line : (text : List ℕ) (taken : ℕ) → IsFirstFault AreLines (lines_of text) taken → IsFault text (Bad (taken + 1))
-bad_line text taken f = (omega arith, subst (λ (n : ℕ). IsFirstFault AreLines (lines_of text) n) (let same : taken ≡ taken + 1 - 1 = omega arith in same) f)
-
-pub fault_at_line : (text : List ℕ) (taken : ℕ) (phase : Phase) (seen : List Component) (rest line more : List ℕ) → SoFar text taken phase seen rest → lines_of rest ≡ Some line ∷ lines_of more
-    → ((x : Line) → line_of (Some line) ≡ Some x → step (phase, seen) x ≡ Err (record {})) → IsFault text (Bad (taken + 1))
-fault_at_line text taken phase seen rest line more h e g = bad_line text taken (so_far_fault text taken phase seen rest line more h e g)
-
-not_empty : (xs : List ℕ) (b : Bool) → b ≡ eqb (length xs) 0 → b ≡ false → xs ≡ [] → ⊥
+pub not_empty : (xs : List ℕ) (b : Bool) → b ≡ eqb (length xs) 0 → b ≡ false → xs ≡ [] → ⊥
 not_empty xs b e f g = let none = ap (λ (ys : List ℕ). eqb (length ys) 0) g in let clash : false ≡ true = sym f ∙ e ∙ none in absurd cc
 
-pub fault_unended : (text : List ℕ) (taken : ℕ) (phase : Phase) (seen : List Component) (rest : List ℕ) (b : Bool) → SoFar text taken phase seen rest → lines_of rest ≡ unended rest → b ≡ eqb (length rest) 0 → b ≡ false → IsFault text (Bad (taken + 1))
-fault_unended text taken phase seen rest b h e l f = bad_line text taken (so_far_unended text taken phase seen rest h e (not_empty rest b l f))
-
-empty : (xs : List ℕ) (b : Bool) → b ≡ eqb (length xs) 0 → b ≡ true → xs ≡ []
-empty [] b e f = refl
-empty (x ∷ xs) b e f = let none = eqb-true (length (x ∷ xs)) 0 (sym e ∙ f) in absurd (omega (arith, none))
-
 -- the place of a phase whose components have all come
-placed : (phase : Phase) (head : Head) → complete phase ≡ Some head → (p : Place) × (phase ≡ Going p) × (p.left ≡ 0) × (p.head ≡ head)
+pub placed : (phase : Phase) (head : Head) → complete phase ≡ Some head → (p : Place) × (phase ≡ Going p) × (p.left ≡ 0) × (p.head ≡ head)
 placed Start head e = absurd cc
 placed (Going p) head e =
     cond_both (eqb p.left 0) (Some p.head) None (λ o. o ≡ Some head → (q : Place) × (Going p ≡ Going q) × (q.left ≡ 0) × (q.head ≡ head)) (λ t f. (p, refl, eqb-true p.left 0 t, cc)) (λ t f. absurd cc) e
 
-unplaced : (phase : Phase) → complete phase ≡ None → IsUndone phase
-unplaced Start e = tt
-unplaced (Going p) e = cond_both (eqb p.left 0) (Some p.head) None (λ o. o ≡ None → p.left ≡ 0 → ⊥) (λ t f. absurd cc) (λ t f. eqb-false p.left 0 t) e
-
-pub fault_early : (text : List ℕ) (taken : ℕ) (phase : Phase) (seen : List Component) (rest : List ℕ) (b : Bool) → SoFar text taken phase seen rest → b ≡ eqb (length rest) 0 → b ≡ true → complete phase ≡ None → IsFault text (Bad (taken + 1))
-fault_early text taken phase seen rest b h l f e = bad_line text taken (so_far_early text taken phase seen rest h (empty rest b l f) (unplaced phase e))
-
-pub whole_text : (text : List ℕ) (taken : ℕ) (phase : Phase) (seen cs : List Component) (rest : List ℕ) (b : Bool) (head : Head) → SoFar text taken phase seen rest → b ≡ eqb (length rest) 0 → b ≡ true → complete phase ≡ Some head → cs ≡ seen → Spells text (layout_of head cs)
-whole_text text taken phase seen cs rest b head h l f e same =
-    let p = placed phase head e in
-    let w = so_far_whole text taken phase p.0 seen rest h (empty rest b l f) p.1 p.2 in
-    subst (Spells text) (ap (λ (k : Head). layout_of k seen) p.3 ∙ ap (layout_of head) (sym same)) w
-
 -- ---- the clauses
-
--- the layout is that of the head and the components
-pub spells_same : (text : List ℕ) (l m : Composite) → l ≡ m → Spells text m → Spells text l
-spells_same text l m e s = subst (Spells text) (sym e) s
 
 pub read_law : (text : List ℕ) (r : Result Composite TextError) → MatchResult r (Spells text) (IsFault text) → MatchResult r (Spells text) (λ _. Unit {0})
 read_law text (Ok l) h = h

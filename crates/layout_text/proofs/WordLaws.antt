@@ -99,8 +99,11 @@ component_lines_lack : (cs : List Component) → AllLack 10 (map component_line 
 component_lines_lack [] = tt
 component_lines_lack (c ∷ cs) = (spaced_lacks (component_words c) (component_words_words c), component_lines_lack cs)
 
+pub texts_lack : (l : Composite) → AllLack 10 (head_line l ∷ map component_line l.components)
+texts_lack l = (spaced_lacks (head_words l) (head_words_words l), component_lines_lack l.components)
+
 pub lines_of-layout : (l : Composite) → lines_of (text_of_layout l) ≡ map (λ line. Some line) (head_line l ∷ map component_line l.components)
-lines_of-layout l = lines-text (head_line l ∷ map component_line l.components) (spaced_lacks (head_words l) (head_words_words l), component_lines_lack l.components)
+lines_of-layout l = lines-text (head_line l ∷ map component_line l.components) (texts_lack l)
 
 -- ---- the bytes of a text
 

@@ -1,5 +1,5 @@
 -- Which texts are those of valid layouts, and where any other text goes wrong.
-use Rattle.std.specs.Prelude.{◌≡◌, ℕ, ◌-◌, ◌^◌, ◌<◌, List, ◌∷◌, map, Option, Some}
+use Rattle.std.specs.Prelude.{◌≡◌, ℕ, ◌-◌, ◌^◌, ◌<◌, List, ◌∷◌, ◌++◌, map, take, Option, Some}
 use Rattle.std.specs.List.{AllByRecursion}
 use Rattle.flr_base.specs.Faults.{IsFirstFault}
 use Rattle.text_words.specs.Lines.{lines_of}
@@ -22,10 +22,29 @@ Spells text l = IsSpellable l × (text ≡ text_of_layout l)
 abbrev pub AreLines : List (Option (List ℕ)) → Type 0
 AreLines ys = (l : Composite) × IsSpellable l × (ys ≡ map (λ line. Some line) (head_line l ∷ map component_line l.components))
 
+-- a line stands first: before that no memory is taken
+abbrev pub HasLine : List (Option (List ℕ)) → Type 0
+HasLine (Some line ∷ ys) = Unit {0}
+HasLine _ = ⊥
+
 -- what an error says of the text: lines are counted from 1
 abbrev pub IsFault : List ℕ → TextError → Type 0
 IsFault text (Bad line) = (0 < line) × IsFirstFault AreLines (lines_of text) (line - 1)
-IsFault text NoMemory = Unit {0}
+IsFault text NoMemory = HasLine (lines_of text)
+
+-- the text of the layout stands first, and the rest behind it
+abbrev pub StandsFirst : List ℕ → Composite → List ℕ → Type 0
+StandsFirst text l rest = IsSpellable l × (text ≡ text_of_layout l ++ rest)
+
+-- the place of the first line with which no valid layout's lines go on, where none has ended before it
+pub record IsFirstStop (ys : List (Option (List ℕ))) (at : ℕ) : Type 0 where
+  pub fault : IsFirstFault AreLines ys at
+  pub whole : (n : ℕ) → AreLines (take n ys) → ⊥
+
+-- what an error says of a text that has to begin with a layout's
+abbrev pub IsFrontFault : List ℕ → TextError → Type 0
+IsFrontFault text (Bad line) = (0 < line) × IsFirstStop (lines_of text) (line - 1)
+IsFrontFault text NoMemory = HasLine (lines_of text)
 
 abbrev pub IsNoMemory : TextError → Type 0
 IsNoMemory (Bad line) = ⊥

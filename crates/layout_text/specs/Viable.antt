@@ -1,7 +1,10 @@
 -- The lines of a layout's text as records, where a reader of them stands, and whether something may still come that
 -- completes them to a valid layout.
-use Rattle.std.specs.Prelude.{◌≡◌, ℕ, ◌+◌, ◌-◌, ◌*◌, ◌/◌, ◌%◌, ◌<◌, ◌≤◌, min, max, Bool, false, not, ◌&&◌, ◌||◌, nat_eq, nat_lt, nat_le, if◌then◌else◌, List, [], ◌∷◌, ◌++◌, length, map, get_or, Option, Some, None, Result, Ok, Err}
+use Rattle.std.specs.Prelude.{◌≡◌, ℕ, ◌+◌, ◌-◌, ◌*◌, ◌/◌, ◌%◌, ◌≤◌, min, max, Bool, false, not, ◌&&◌, ◌||◌, nat_eq, nat_lt, nat_le, if◌then◌else◌, List, [], ◌∷◌, ◌++◌, length, map, Option, Some, None, Result, Ok, Err}
 use Rattle.std.specs.List.{list_all}
+use Rattle.std.specs.Option.{option_map}
+use Rattle.std.specs.Ordering.{nat_cmp}
+use Rattle.std.specs.BTreeSet.{BTreeSet, contains}
 use Rattle.flr_base.specs.declared.reply.ObjectId.{ObjectId}
 use Rattle.flr_base.specs.declared.reply.Stripe.{Stripe}
 use Rattle.composite_layout.specs.declared.component.Component.{Component}
@@ -137,9 +140,9 @@ abbrev pub IsSmall : Phase → Type 0
 IsSmall Start = Unit {0}
 IsSmall (Going p) = p.begun ≤ most p.head.state
 
--- the table has the numbers of these components
-abbrev pub Marks : List Bool → List Component → Type 0
-Marks table seen = (q : ℕ) → q < 65536 → get_or table q false ≡ is_used q seen
+-- the set has the numbers of these components
+abbrev pub AreNumbers : BTreeSet ℕ → List Component → Type 0
+AreNumbers used seen = (q : ℕ) → contains nat_cmp used q ≡ is_used q seen
 
 -- what a reader in this phase made of a line, before and after which these components were seen: the phase behind
 -- it, or none, where the line goes on no valid layout's text
@@ -151,3 +154,7 @@ Took phase old new line (Some after) = (x : Line) × (line ≡ Some x) × (step 
 abbrev pub complete : Phase → Option Head
 complete Start = None
 complete (Going p) = if nat_eq p.left 0 then Some p.head else None
+
+-- the layout of a state, where all its components have come
+abbrev pub layout_at : State → Option Composite
+layout_at (phase, seen) = option_map (λ h. layout_of h seen) (complete phase)

@@ -1,6 +1,7 @@
 //! The words of a layout's lines, each after a space.
 
-ghost use Rattle.std.specs.Prelude.{◌≡◌, ◌++◌, ◌∷◌, [], ◌||◌, IfOk, OnOk, codes};
+ghost use Rattle.flr_base.specs.Puts.{Puts};
+ghost use Rattle.std.specs.Prelude.{◌≡◌, ◌++◌, ◌∷◌, [], ◌||◌, IfOk, codes};
 ghost use Rattle.std.specs.Fmt.{decimal};
 ghost use Rattle.text_words.specs.Items.{object_text};
 ghost use Rattle.text_words.specs.Lists.{list_text};
@@ -13,8 +14,9 @@ use flr_base::{NoMemory, ObjectId, Range, Stripe};
 use text_words::{put_end, put_list, put_number, put_word};
 
 /// Appends a key and its number.
+#[tactic(auto, using(flr_base::proofs::Puts::puts, crate::proofs::PrintLaws::behind))]
 pub(crate) fn put_field(out: &mut Vec<u8>, key: &[u8], number: u64) -> Result<(), NoMemory>
-    ensures { OnOk result (out.new.items ≡ out.old.items ++ text_behind (key.now ∷ decimal number ∷ [])) }
+    ensures { Puts out.old.items out.new.items result (text_behind (key.now ∷ decimal number ∷ [])) }
 {
     put_word(out, key)?;
     put_number(out, number)
@@ -33,8 +35,9 @@ fn state_word(state: State) -> &'static [u8]
 }
 
 /// Appends `state` and the word of the state.
+#[tactic(auto, using(flr_base::proofs::Puts::puts, crate::proofs::PrintLaws::behind))]
 pub(crate) fn put_state(out: &mut Vec<u8>, state: State) -> Result<(), NoMemory>
-    ensures { OnOk result (out.new.items ≡ out.old.items ++ text_behind (codes "state" ∷ state_word state ∷ [])) }
+    ensures { Puts out.old.items out.new.items result (text_behind (codes "state" ∷ state_word state ∷ [])) }
 {
     put_word(out, b"state")?;
     put_word(out, state_word(state))
@@ -42,9 +45,10 @@ pub(crate) fn put_state(out: &mut Vec<u8>, state: State) -> Result<(), NoMemory>
 
 /// Appends the name of a flag where it is set, with a comma before it where a name stands before it.
 /// Answers whether a name stands there now.
+#[tactic(auto, using(flr_base::proofs::Puts::puts, crate::proofs::PrintLaws::behind))]
 fn put_flag(out: &mut Vec<u8>, begun: bool, name: &[u8], set: bool) -> Result<bool, NoMemory>
     ensures begun { IfOk result (λ now. now ≡ (begun || set)) }
-    ensures appended { OnOk result (out.new.items ≡ out.old.items ++ flag_part begun set name.now) }
+    ensures appended { Puts out.old.items out.new.items result (flag_part begun set name.now) }
 {
     if !set {
         return Ok(begun);
@@ -57,8 +61,9 @@ fn put_flag(out: &mut Vec<u8>, begun: bool, name: &[u8], set: bool) -> Result<bo
 }
 
 /// Appends the names of the set flags, and `0` where none is set.
+#[tactic(auto, using(flr_base::proofs::Puts::puts, crate::proofs::PrintLaws::behind))]
 fn put_flag_names(out: &mut Vec<u8>, flags: Flags) -> Result<(), NoMemory>
-    ensures { OnOk result (out.new.items ≡ out.old.items ++ flags_word flags) }
+    ensures { Puts out.old.items out.new.items result (flags_word flags) }
 {
     let begun = put_flag(out, false, b"init", flags.init)?;
     let begun = put_flag(out, begun, b"stale", flags.stale)?;
@@ -72,8 +77,9 @@ fn put_flag_names(out: &mut Vec<u8>, flags: Flags) -> Result<(), NoMemory>
 }
 
 /// Appends `flags` and the names of the set flags.
+#[tactic(auto, using(flr_base::proofs::Puts::puts, crate::proofs::PrintLaws::behind))]
 pub(crate) fn put_flags(out: &mut Vec<u8>, flags: Flags) -> Result<(), NoMemory>
-    ensures { OnOk result (out.new.items ≡ out.old.items ++ text_behind (codes "flags" ∷ flags_word flags ∷ [])) }
+    ensures { Puts out.old.items out.new.items result (text_behind (codes "flags" ∷ flags_word flags ∷ [])) }
 {
     put_word(out, b"flags")?;
     out.push(b' ')?;
@@ -81,8 +87,9 @@ pub(crate) fn put_flags(out: &mut Vec<u8>, flags: Flags) -> Result<(), NoMemory>
 }
 
 /// Appends `extent`, where the component begins and where it ends.
+#[tactic(auto, using(flr_base::proofs::Puts::puts, crate::proofs::PrintLaws::behind))]
 pub(crate) fn put_extent(out: &mut Vec<u8>, extent: Range) -> Result<(), NoMemory>
-    ensures { OnOk result (out.new.items ≡ out.old.items ++ text_behind (codes "extent" ∷ decimal extent.start ∷ end_text (codes "EOF") extent.end ∷ [])) }
+    ensures { Puts out.old.items out.new.items result (text_behind (codes "extent" ∷ decimal extent.start ∷ end_text (codes "EOF") extent.end ∷ [])) }
 {
     put_field(out, b"extent", extent.start)?;
     out.push(b' ')?;
@@ -90,16 +97,18 @@ pub(crate) fn put_extent(out: &mut Vec<u8>, extent: Range) -> Result<(), NoMemor
 }
 
 /// Appends the size and the count of the stripes.
+#[tactic(auto, using(flr_base::proofs::Puts::puts, crate::proofs::PrintLaws::behind))]
 pub(crate) fn put_stripe(out: &mut Vec<u8>, stripe: Stripe) -> Result<(), NoMemory>
-    ensures { OnOk result (out.new.items ≡ out.old.items ++ text_behind (codes "size" ∷ decimal stripe.size ∷ codes "count" ∷ decimal stripe.count ∷ [])) }
+    ensures { Puts out.old.items out.new.items result (text_behind (codes "size" ∷ decimal stripe.size ∷ codes "count" ∷ decimal stripe.count ∷ [])) }
 {
     put_field(out, b"size", stripe.size)?;
     put_field(out, b"count", u64::from(stripe.count))
 }
 
 /// Appends `objects` and the objects, one for each stripe.
+#[tactic(auto, using(flr_base::proofs::Puts::puts, crate::proofs::PrintLaws::behind))]
 pub(crate) fn put_objects(out: &mut Vec<u8>, objects: &[ObjectId]) -> Result<(), NoMemory>
-    ensures { OnOk result (out.new.items ≡ out.old.items ++ text_behind (codes "objects" ∷ list_text object_text objects.now ∷ [])) }
+    ensures { Puts out.old.items out.new.items result (text_behind (codes "objects" ∷ list_text object_text objects.now ∷ [])) }
 {
     put_word(out, b"objects")?;
     out.push(b' ')?;

@@ -15,13 +15,6 @@ mod words;
 
 pub use error::TextError;
 pub use print::print_layout;
-pub use read::read_layout;
+pub use read::{next_layout, read_layout};
 pub use round_trip::through_text;
 pub use spellable::has_text;
-
-#[cfg(test)]
-mod print_tests;
-#[cfg(test)]
-mod read_tests;
-#[cfg(test)]
-mod round_trip_tests;

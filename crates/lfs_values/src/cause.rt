@@ -1,5 +1,6 @@
 //! Why a line isn't read. The causes and their texts are this project's own.
 
+ghost use Rattle.flr_base.specs.Puts.{Puts};
 ghost use Rattle.std.specs.Prelude.{◌≡◌, ◌++◌, ◌∷◌, OnOk, codes};
 ghost use Rattle.std.specs.Fmt.{decimal};
 ghost use Rattle.text_words.specs.Sizes.{end_text};
@@ -108,22 +109,25 @@ pub fn cause_at(fault: Fault, place: u32) -> Cause
     }
 }
 
+#[tactic(auto, using(flr_base::proofs::Puts::puts))]
 fn put_text(out: &mut Vec<u8>, text: &[u8]) -> Result<(), NoMemory>
-    ensures { OnOk result (out.new.items ≡ out.old.items ++ text.now) }
+    ensures { Puts out.old.items out.new.items result (text.now) }
 {
     out.extend_from_slice(text)?;
     Ok(())
 }
 
+#[tactic(auto, using(flr_base::proofs::Puts::puts))]
 fn put_placed(out: &mut Vec<u8>, text: &[u8], place: u32) -> Result<(), NoMemory>
-    ensures { OnOk result (out.new.items ≡ out.old.items ++ (text.now ++ 32 ∷ decimal place)) }
+    ensures { Puts out.old.items out.new.items result (text.now ++ 32 ∷ decimal place) }
 {
     put_text(out, text)?;
     put_number(out, u64::from(place))
 }
 
+#[tactic(auto, using(flr_base::proofs::Puts::puts))]
 fn put_bytes(out: &mut Vec<u8>, text: &[u8], at: u64) -> Result<(), NoMemory>
-    ensures { OnOk result (out.new.items ≡ out.old.items ++ (text.now ++ 32 ∷ end_text (codes "EOF") at)) }
+    ensures { Puts out.old.items out.new.items result (text.now ++ 32 ∷ end_text (codes "EOF") at) }
 {
     put_text(out, text)?;
     out.push(b' ')?;
@@ -131,9 +135,10 @@ fn put_bytes(out: &mut Vec<u8>, text: &[u8], at: u64) -> Result<(), NoMemory>
 }
 
 /// Appends the text of the cause. Want of memory has none. Without memory the text may have grown by a
-/// part of it.
+/// front of it.
+#[tactic(auto, using(flr_base::proofs::Puts::puts))]
 pub fn put_cause(out: &mut Vec<u8>, cause: Cause) -> Result<(), NoMemory>
-    ensures appended { OnOk result (out.new.items ≡ out.old.items ++ cause_text cause) }
+    ensures appended { Puts out.old.items out.new.items result (cause_text cause) }
 {
     match cause {
         Cause::NoNewline => put_text(out, b"no newline"),

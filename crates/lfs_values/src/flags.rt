@@ -1,5 +1,6 @@
 //! Lists of flags that are set or cleared, as `--comp-flags=` has them.
 
+ghost use Rattle.flr_base.specs.Puts.{Puts};
 ghost use Rattle.std.specs.Prelude.{◌≡◌, ◌≢◌, ◌++◌, false, map, IfOk, OnOk, MatchResult};
 ghost use Rattle.composite_layout.specs.FlagChanges.{FlagSets, AreFlagSets};
 ghost use Rattle.lfs_values.specs.Answers.{Gives, IsNoMemory, IfWord};
@@ -65,6 +66,7 @@ impl Item for FlagWord {
 
     ghost item_of = { flag_word_of };
 
+    #[tactic(auto, using(flr_base::proofs::Puts::puts))]
     fn put(&self, out: &mut Vec<u8>) -> Result<(), NoMemory> {
         out.extend_from_slice(text_of(*self))?;
         Ok(())
@@ -184,17 +186,19 @@ fn words_of(alloc: Global, change: FlagChange) -> Result<Vec<FlagWord>, NoMemory
     Ok(words)
 }
 
+#[tactic(auto, using(flr_base::proofs::Puts::puts))]
 fn put_word(out: &mut Vec<u8>, change: FlagChange) -> Result<(), NoMemory>
-    ensures { OnOk result (out.new.items ≡ out.old.items ++ flags_text change) }
+    ensures { Puts out.old.items out.new.items result (flags_text change) }
 {
     let words = words_of(*out.allocator(), change)?;
     put_list(out, &words)
 }
 
 /// Appends the change of flags as one word, in the order prefer, offline, nosync, stale, with `^` before
-/// those that are cleared, and `-` for no change. Without memory the text may have grown by a part of it.
+/// those that are cleared, and `-` for no change. Without memory the text may have grown by a front of it.
+#[tactic(auto, using(flr_base::proofs::Puts::puts))]
 pub fn put_flags(out: &mut Vec<u8>, change: FlagChange) -> Result<(), NoMemory>
-    ensures appended { OnOk result (out.new.items ≡ out.old.items ++ flags_text change) }
+    ensures appended { Puts out.old.items out.new.items result (flags_text change) }
     ensures spells { AreFlagSets change → change ≢ no_change → SpellsFlags (flags_text change) change }
 {
     put_word(out, change)

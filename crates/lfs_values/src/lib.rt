@@ -14,6 +14,3 @@ pub use flags::{put_flags, read_flags};
 pub use keys::{Key, key_of, value_of};
 pub use mirror_ids::{put_ids, read_ids};
 pub use values::{component_id, mirror_count, mirror_id, put_count, stripe_count, stripe_size};
-
-#[cfg(test)]
-mod tests;

@@ -1,5 +1,6 @@
 //! Lists of mirror ids, as `--only` takes them.
 
+ghost use Rattle.flr_base.specs.Puts.{Puts};
 ghost use Rattle.std.specs.Prelude.{◌≡◌, ℕ, ◌++◌, List, map, OnOk, nat_eq, MatchResult};
 ghost use Rattle.text_words.specs.Numbers.{number_from};
 ghost use Rattle.lfs_values.specs.Answers.{Gives, IsNoMemory, IfWord};
@@ -50,10 +51,11 @@ pub fn read_ids(alloc: Global, word: &[u8]) -> Result<Ids, Stop>
     read_word(alloc, word)
 }
 
-/// Appends the ids as one word, joined by commas. Without memory the text may have grown by a part of
+/// Appends the ids as one word, joined by commas. Without memory the text may have grown by a front of
 /// it.
+#[tactic(auto, using(flr_base::proofs::Puts::puts))]
 pub fn put_ids(out: &mut Vec<u8>, ids: &Ids) -> Result<(), NoMemory>
-    ensures appended { OnOk result (out.new.items ≡ out.old.items ++ ids_text ids.now) }
+    ensures appended { Puts out.old.items out.new.items result (ids_text ids.now) }
 {
     put_list(out, ids.as_slice())
 }

@@ -1,5 +1,6 @@
 //! The values of single words: what stands behind an option.
 
+ghost use Rattle.flr_base.specs.Puts.{Puts};
 ghost use Rattle.std.specs.Prelude.{◌≡◌, ℕ, ℤ, ◌++◌, ◌-◌, ◌^◌, ◌≤◌, ◌↔◌, Some, IfSome, OnOk};
 ghost use Rattle.std.specs.Fmt.{decimal, signed_decimal};
 ghost use Rattle.text_words.specs.Numbers.{number_from};
@@ -56,9 +57,10 @@ pub fn stripe_count(word: &[u8]) -> Option<i32>
 }
 
 /// Appends a number of stripes, which may be negative. Without memory the text may have grown by a
-/// part of it.
+/// front of it.
+#[tactic(auto, using(flr_base::proofs::Puts::puts))]
 pub fn put_count(out: &mut Vec<u8>, count: i32) -> Result<(), NoMemory>
-    ensures appended { OnOk result (out.new.items ≡ out.old.items ++ signed_decimal count) }
+    ensures appended { Puts out.old.items out.new.items result (signed_decimal count) }
 {
     if count < 0 {
         out.push(b'-')?;

@@ -30,7 +30,7 @@ use Rattle.lfs_words.specs.Options.{is_complete, ended_mirrors}
 use Rattle.lfs_words.specs.Checking.{expanded, unless, spec_of, alone, other_file, checked_to, checked_split, checked_delete, checked_change, checked_extend_by, checked}
 use Rattle.lfs_words.specs.Goodness.{IsGoodState}
 use Rattle.lfs_words.specs.Reading.{step, place_at, ends, command_of, read_of, Answers}
-use Rattle.lfs_words.specs.Grammar.{IsAsked, IsLine, Spells, IsRefused, IsCause}
+use Rattle.lfs_words.specs.Grammar.{IsAsked, IsLine, Spells, IsRefused, IsBehindForm, IsCause}
 use Rattle.lfs_words.proofs.Lines.{Stands, asked_reads, asked_of}
 use Rattle.lfs_words.proofs.Completing.{lfs_reads}
 
@@ -102,15 +102,15 @@ err_at : {A : Type 0} (r : Result A Cause) (cause : Cause) → IfErr r IsWhole �
 err_at (Ok x) cause h e = absurd cc
 err_at (Err c) cause h e = let same : c ≡ cause = cc in subst IsWhole same h
 
-whole_cause : (most : ℕ) (words : List (List ℕ)) (cause : Cause) → IsWhole cause → IsRefused most words cause → IsCause most words cause
-whole_cause most words causes.SameFile h r = r
-whole_cause most words causes.NoMirror h r = r
-whole_cause most words causes.TooManyMirrors h r = r
-whole_cause most words causes.TooManyParts h r = r
-whole_cause most words (causes.Unaligned at) h r = r
-whole_cause most words (causes.Gap at) h r = r
-whole_cause most words causes.Memory h r = tt
-whole_cause most words cause h r = absurd h
+whole_cause : (most : ℕ) (words : List (List ℕ)) (cause : Cause) → cause ≢ causes.Memory → IsWhole cause → IsRefused most words cause → IsCause most words cause
+whole_cause most words causes.SameFile n h r = r
+whole_cause most words causes.NoMirror n h r = r
+whole_cause most words causes.TooManyMirrors n h r = r
+whole_cause most words causes.TooManyParts n h r = r
+whole_cause most words (causes.Unaligned at) n h r = r
+whole_cause most words (causes.Gap at) n h r = r
+whole_cause most words causes.Memory n h r = absurd (n refl)
+whole_cause most words cause n h r = absurd h
 
 -- ---- the laws of reading
 
@@ -162,18 +162,18 @@ missing_at most words s cause is no_end same =
     subst (IsCause most words) same (ends_early (step most) (lfs_reads most) words s is
     (λ line. no_end (let other = line_read most words line.0 line.1 line.2 in let ends_so : state.Done line.0 line.1 ≡ s = cc in subst IsEnd ends_so tt)))
 
-first_at : (most : ℕ) (words : List (List ℕ)) (cause : Cause) (r : Result State (ℕ × Fault)) → reads (step most) 0 state.Start words ≡ r → command_of most r ≡ Err cause → IsCause most words cause
-first_at most words cause (Err fault) is e =
+first_at : (most : ℕ) (words : List (List ℕ)) (cause : Cause) (r : Result State (ℕ × Fault)) → cause ≢ causes.Memory → reads (step most) 0 state.Start words ≡ r → command_of most r ≡ Err cause → IsCause most words cause
+first_at most words cause (Err fault) n is e =
     let same : cause_at fault.1 (place_at fault.0) ≡ cause = cc in
     subst (IsCause most words) same (fault_cause most words fault.0 fault.1 (first_fault (step most) (lfs_reads most) words [] fault.0 fault.1 is))
-first_at most words cause (Ok (state.Done a name)) is e =
+first_at most words cause (Ok (state.Done a name)) n is e =
     let led = read_stands (step most) (lfs_reads most) words (state.Done a name) is in
-    whole_cause most words cause (err_at (checked most a name) cause (whole most a name led.complete) e) (a, name, asked_of most a name words led, e)
-first_at most words cause (Ok s) is e = missing_at most words s cause is (λ h. h) cc
+    whole_cause most words cause n (err_at (checked most a name) cause (whole most a name led.complete) e) (a, name, asked_of most a name words led, e)
+first_at most words cause (Ok s) n is e = missing_at most words s cause is (λ h. h) cc
 
-pub first : (most : ℕ) (words : List (List ℕ)) (cause : Cause) → read_of most words ≡ Err cause → IsCause most words cause
+pub first : (most : ℕ) (words : List (List ℕ)) (cause : Cause) → cause ≢ causes.Memory → read_of most words ≡ Err cause → IsCause most words cause
 unfolding read_of
-first most words cause e = first_at most words cause (reads (step most) 0 state.Start words) refl e
+first most words cause n e = first_at most words cause (reads (step most) 0 state.Start words) n refl e
 
 -- ---- answers
 
@@ -181,12 +181,12 @@ is_memory : (cause : Cause) → (cause ≡ causes.Memory) ⊎ (cause ≢ causes.
 is_memory causes.Memory = inl refl
 is_memory cause = inr (λ e. absurd cc)
 
-pub answer_read : (most : ℕ) (words : List (List ℕ)) (r : Result LfsCommand Cause) → Answers r (read_of most words) → MatchResult r (λ command. Spells most words command) (IsCause most words)
-answer_read most words (Ok command) h = found most words command h
-answer_read most words (Err cause) h =
+pub answer_read : (most : ℕ) (words : List (List ℕ)) (r : Result LfsCommand Cause) → Answers r (read_of most words) → (r ≡ Err causes.Memory → IsBehindForm words) → MatchResult r (λ command. Spells most words command) (IsCause most words)
+answer_read most words (Ok command) h m = found most words command h
+answer_read most words (Err cause) h m =
     elim (is_memory cause) [
-      | inl e ↦ subst (IsCause most words) (sym e) tt
-      | inr n ↦ first most words cause (h n)
+      | inl e ↦ subst (IsCause most words) (sym e) (m (ap (λ (c : Cause). Err c) e))
+      | inr n ↦ first most words cause n (h n)
     ]
 
 pub answer_again : (most : ℕ) (words : List (List ℕ)) (r : Result LfsCommand Cause) → Answers r (read_of most words) → (command : LfsCommand) → Spells most words command → MatchResult r (λ found. found ≡ command) (λ cause. cause ≡ causes.Memory)

@@ -27,11 +27,11 @@ use Rattle.lfs_words.proofs.Saying.{Said, SaidTo, said_items, said_bare}
 
 -- ---- the names in a command
 
-abbrev IsName : List ℕ → Type 0
+abbrev pub IsName : List ℕ → Type 0
 IsName name = is_name name ≡ true
 
 -- where a name stands, there is one
-abbrev AreNamed : LfsCommand → Type 0
+abbrev pub AreNamed : LfsCommand → Type 0
 AreNamed (commands.SetStripe name spec) = IsName name
 AreNamed (commands.GetStripe name) = IsName name
 AreNamed (commands.CompSet name id change) = IsName name
@@ -72,7 +72,7 @@ checked_named most (asks.Split mirror to) name said named = split_named mirror t
 checked_named most (asks.Delete mirror) name said named = delete_named mirror name named
 checked_named most (asks.Resync only) name said named = named
 
-spelled_named : (most : ℕ) (words : List (List ℕ)) (command : LfsCommand) → Spells most words command → AreNamed command
+pub spelled_named : (most : ℕ) (words : List (List ℕ)) (command : LfsCommand) → Spells most words command → AreNamed command
 spelled_named most words command (a, name, asked, right) =
     let said = said_items most (bare asked.form) a asked.behind.options asked.behind.asked (said_bare asked.form) in
     if_ok_at (checked most a name) AreNamed command (checked_named most a name said asked.behind.named) right
@@ -108,7 +108,7 @@ comp_flags_is_word change = word_append (codes "--comp-flags=") (flags_text chan
 one_name : (name : List ℕ) → IsName name → AreWords (name ∷ [])
 one_name name h = (name_word name h, tt)
 
-all_words : (command : LfsCommand) → AreNamed command → AreWords (words_of_command command)
+pub all_words : (command : LfsCommand) → AreNamed command → AreWords (words_of_command command)
 all_words (commands.SetStripe name spec) h = (refl, (refl, words_append (parts_words spec) (name ∷ []) (flat_words (λ m. flat_map part_words m.parts) (λ m. flat_words part_words part_is_words m.parts) spec) (one_name name h)))
 all_words (commands.GetStripe name) h = (refl, (refl, one_name name h))
 all_words (commands.CompSet name id change) h = (refl, (refl, (refl, (refl, (decimal_word id, (comp_flags_is_word change, one_name name h))))))

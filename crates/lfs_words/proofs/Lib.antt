@@ -5,9 +5,11 @@ pub mod Expanding
 pub mod Items
 pub mod Lines
 pub mod Completing
+pub mod Wanting
 pub mod Answering
 pub mod Saying
 pub mod Printed
 pub mod PrintedParts
 pub mod PrintedSpecs
 pub mod Apart
+pub mod FactLaws

@@ -118,6 +118,10 @@ IsFaultAt most words place = (at : ℕ) × (place ≡ place_at at) × IsFirstFau
 abbrev pub IsRefused : ℕ → List (List ℕ) → Cause → Type 0
 IsRefused most words cause = (asked : Asked) × (name : List ℕ) × IsAsked most words asked name × (checked most asked name ≡ Err cause)
 
+-- a word stands behind those of a form: before that no memory is taken
+abbrev pub IsBehindForm : List (List ℕ) → Type 0
+IsBehindForm words = (form : Form) × (word : List ℕ) × (more : List (List ℕ)) × (words ≡ form_words form ++ word ∷ more)
+
 abbrev pub IsCause : ℕ → List (List ℕ) → Cause → Type 0
 IsCause most words (causes.UnknownWord place) = IsFaultAt most words place
 IsCause most words causes.Missing = IsFirstFault (IsLine most) words (length words)
@@ -136,4 +140,4 @@ IsCause most words causes.NoNewline = ⊥
 IsCause most words causes.NotText = ⊥
 IsCause most words causes.Misplaced = ⊥
 IsCause most words (causes.BadBytes place) = ⊥
-IsCause most words causes.Memory = Unit {0}
+IsCause most words causes.Memory = IsBehindForm words

@@ -72,6 +72,17 @@ step most (state.Options a) word = word_of most a word
 step most (state.Value a k) word = given most a k word
 step most (state.Done a name) word = Err faults.Extra
 
+-- the words of a form have stood, and the file hasn't
+abbrev pub IsOpen : State → Type 0
+IsOpen (state.Options a) = Unit {0}
+IsOpen (state.Value a k) = Unit {0}
+IsOpen _ = ⊥
+
+-- the file has stood
+abbrev pub IsDone : State → Type 0
+IsDone (state.Done a name) = Unit {0}
+IsDone _ = ⊥
+
 -- the place of a word in its line, counted from 1, which stands still at its last value
 abbrev pub place_at : ℕ → ℕ
 place_at at = min (at + 1) (2 ^ 32 - 1)

@@ -6,6 +6,7 @@
 mod asked;
 mod check;
 mod command;
+mod facts;
 mod options;
 mod parts;
 mod print;
@@ -16,10 +17,8 @@ mod step;
 mod takes;
 
 pub use command::{LfsCommand, SplitTo};
+pub use facts::spelled_facts;
 pub use lfs_values::{Cause, put_cause};
 pub use print::{print_lfs, printed_spells};
 pub use read::read_lfs;
 pub use round_trip::through_text;
-
-#[cfg(test)]
-mod tests;

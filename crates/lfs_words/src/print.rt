@@ -1,6 +1,7 @@
 //! The one printed form of a command.
 
-ghost use Rattle.std.specs.Prelude.{◌≡◌, ℕ, List, ◌++◌, ◌∷◌, [], OnOk, IfOk, codes};
+ghost use Rattle.flr_base.specs.Puts.{Puts};
+ghost use Rattle.std.specs.Prelude.{◌≡◌, ℕ, List, ◌++◌, ◌∷◌, [], IfOk, codes};
 ghost use Rattle.std.specs.Fmt.{decimal};
 ghost use Rattle.std.specs.List.{flat_map};
 ghost use Rattle.text_words.specs.Pieces.{words_of};
@@ -18,23 +19,26 @@ use flr_base::{Ids, Name, NoMemory, Octets};
 use std::alloc::Global;
 use text_words::put_word;
 
+#[tactic(auto, using(flr_base::proofs::Puts::puts, crate::proofs::Spaced::spaced))]
 fn put_setstripe(out: &mut Vec<u8>, name: &Name, spec: &Spec) -> Result<(), NoMemory>
-    ensures { OnOk result (out.new.items ≡ out.old.items ++ after_spaces (words_after_lfs (commands.SetStripe name.now spec.now))) }
+    ensures { Puts out.old.items out.new.items result (after_spaces (words_after_lfs (commands.SetStripe name.now spec.now))) }
 {
     put_word(out, b"setstripe")?;
-    put_all_parts(out, spec.mirrors())?;
+    put_all_parts(out, spec)?;
     put_file(out, name)
 }
 
+#[tactic(auto, using(flr_base::proofs::Puts::puts, crate::proofs::Spaced::spaced))]
 fn put_getstripe(out: &mut Vec<u8>, name: &Name) -> Result<(), NoMemory>
-    ensures { OnOk result (out.new.items ≡ out.old.items ++ after_spaces (words_after_lfs (commands.GetStripe name.now))) }
+    ensures { Puts out.old.items out.new.items result (after_spaces (words_after_lfs (commands.GetStripe name.now))) }
 {
     put_word(out, b"getstripe")?;
     put_file(out, name)
 }
 
+#[tactic(auto, using(flr_base::proofs::Puts::puts, crate::proofs::Spaced::spaced))]
 fn put_comp_set(out: &mut Vec<u8>, name: &Name, id: u32, change: FlagChange) -> Result<(), NoMemory>
-    ensures { OnOk result (out.new.items ≡ out.old.items ++ after_spaces (words_after_lfs (commands.CompSet name.now id change))) }
+    ensures { Puts out.old.items out.new.items result (after_spaces (words_after_lfs (commands.CompSet name.now id change))) }
 {
     put_words(out, b"setstripe", b"--comp-set")?;
     put_option(out, b"-I", id as u64)?;
@@ -42,24 +46,27 @@ fn put_comp_set(out: &mut Vec<u8>, name: &Name, id: u32, change: FlagChange) -> 
     put_file(out, name)
 }
 
+#[tactic(auto, using(flr_base::proofs::Puts::puts, crate::proofs::Spaced::spaced))]
 fn put_create(out: &mut Vec<u8>, name: &Name, spec: &Spec) -> Result<(), NoMemory>
-    ensures { OnOk result (out.new.items ≡ out.old.items ++ after_spaces (words_after_lfs (commands.Create name.now spec.now))) }
+    ensures { Puts out.old.items out.new.items result (after_spaces (words_after_lfs (commands.Create name.now spec.now))) }
 {
     put_words(out, b"mirror", b"create")?;
     put_mirrors(out, spec)?;
     put_file(out, name)
 }
 
+#[tactic(auto, using(flr_base::proofs::Puts::puts, crate::proofs::Spaced::spaced))]
 fn put_extend(out: &mut Vec<u8>, name: &Name, spec: &Spec) -> Result<(), NoMemory>
-    ensures { OnOk result (out.new.items ≡ out.old.items ++ after_spaces (words_after_lfs (commands.Extend name.now spec.now))) }
+    ensures { Puts out.old.items out.new.items result (after_spaces (words_after_lfs (commands.Extend name.now spec.now))) }
 {
     put_words(out, b"mirror", b"extend")?;
     put_mirrors(out, spec)?;
     put_file(out, name)
 }
 
+#[tactic(auto, using(flr_base::proofs::Puts::puts, crate::proofs::Spaced::spaced))]
 fn put_extend_by(out: &mut Vec<u8>, name: &Name, victim: &Name) -> Result<(), NoMemory>
-    ensures { OnOk result (out.new.items ≡ out.old.items ++ after_spaces (words_after_lfs (commands.ExtendBy name.now victim.now))) }
+    ensures { Puts out.old.items out.new.items result (after_spaces (words_after_lfs (commands.ExtendBy name.now victim.now))) }
 {
     put_words(out, b"mirror", b"extend")?;
     put_words(out, b"-N", b"-f")?;
@@ -67,8 +74,9 @@ fn put_extend_by(out: &mut Vec<u8>, name: &Name, victim: &Name) -> Result<(), No
     put_file(out, name)
 }
 
+#[tactic(auto, using(flr_base::proofs::Puts::puts, crate::proofs::Spaced::spaced))]
 fn put_split(out: &mut Vec<u8>, name: &Name, mirror: u16, to: &SplitTo) -> Result<(), NoMemory>
-    ensures { OnOk result (out.new.items ≡ out.old.items ++ after_spaces (words_after_lfs (commands.Split name.now mirror to.now))) }
+    ensures { Puts out.old.items out.new.items result (after_spaces (words_after_lfs (commands.Split name.now mirror to.now))) }
 {
     put_words(out, b"mirror", b"split")?;
     put_option(out, b"--mirror-id", mirror as u64)?;
@@ -76,32 +84,36 @@ fn put_split(out: &mut Vec<u8>, name: &Name, mirror: u16, to: &SplitTo) -> Resul
     put_file(out, name)
 }
 
+#[tactic(auto, using(flr_base::proofs::Puts::puts, crate::proofs::Spaced::spaced))]
 fn put_delete(out: &mut Vec<u8>, name: &Name, mirror: u16) -> Result<(), NoMemory>
-    ensures { OnOk result (out.new.items ≡ out.old.items ++ after_spaces (words_after_lfs (commands.Delete name.now mirror))) }
+    ensures { Puts out.old.items out.new.items result (after_spaces (words_after_lfs (commands.Delete name.now mirror))) }
 {
     put_words(out, b"mirror", b"delete")?;
     put_option(out, b"--mirror-id", mirror as u64)?;
     put_file(out, name)
 }
 
+#[tactic(auto, using(flr_base::proofs::Puts::puts, crate::proofs::Spaced::spaced))]
 fn put_resync(out: &mut Vec<u8>, name: &Name, only: &Option<Ids>) -> Result<(), NoMemory>
-    ensures { OnOk result (out.new.items ≡ out.old.items ++ after_spaces (words_after_lfs (commands.Resync name.now only.now))) }
+    ensures { Puts out.old.items out.new.items result (after_spaces (words_after_lfs (commands.Resync name.now only.now))) }
 {
     put_words(out, b"mirror", b"resync")?;
     put_only(out, only)?;
     put_file(out, name)
 }
 
+#[tactic(auto, using(flr_base::proofs::Puts::puts, crate::proofs::Spaced::spaced))]
 fn put_verify(out: &mut Vec<u8>, name: &Name) -> Result<(), NoMemory>
-    ensures { OnOk result (out.new.items ≡ out.old.items ++ after_spaces (words_after_lfs (commands.Verify name.now))) }
+    ensures { Puts out.old.items out.new.items result (after_spaces (words_after_lfs (commands.Verify name.now))) }
 {
     put_words(out, b"mirror", b"verify")?;
     put_file(out, name)
 }
 
 /// Appends the words behind `lfs`.
+#[tactic(auto, using(flr_base::proofs::Puts::puts, crate::proofs::Spaced::spaced))]
 fn put_command(out: &mut Vec<u8>, command: &LfsCommand) -> Result<(), NoMemory>
-    ensures { OnOk result (out.new.items ≡ out.old.items ++ after_spaces (words_after_lfs command.now)) }
+    ensures { Puts out.old.items out.new.items result (after_spaces (words_after_lfs command.now)) }
 {
     match command {
         LfsCommand::SetStripe { name, spec } => put_setstripe(out, name, spec),

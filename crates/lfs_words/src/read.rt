@@ -1,12 +1,12 @@
 //! The command that words are.
 
-ghost use Rattle.std.specs.Prelude.{◌≡◌, ◌<◌, ◌≤◌, map, IfOk, MatchResult};
+ghost use Rattle.std.specs.Prelude.{◌≡◌, ◌<◌, ◌≤◌, map, IfOk, OnErr, MatchResult};
 ghost use Rattle.flr_base.specs.Reading.{reads};
 ghost use Rattle.lfs_words.specs.declared.command.LfsCommand.{LfsCommand};
 ghost use Rattle.lfs_words.specs.declared.step.State.TheVariants as state;
 ghost use Rattle.lfs_words.specs.Goodness.{IsGoodState};
-ghost use Rattle.lfs_words.specs.Grammar.{Spells, IsCause};
-ghost use Rattle.lfs_words.specs.Reading.{step, place_at, ends, read_of, Answers};
+ghost use Rattle.lfs_words.specs.Grammar.{Spells, IsCause, IsBehindForm};
+ghost use Rattle.lfs_words.specs.Reading.{step, place_at, ends, read_of, IsDone, Answers};
 ghost use Rattle.lfs_values.specs.declared.cause.Cause.TheVariants as causes;
 
 use crate::check::checked;
@@ -17,13 +17,14 @@ use lfs_values::{Cause, Fault, Stop, cause_at};
 use std::alloc::Global;
 
 /// The state behind the words, or the first word at fault, counted from 0.
-#[tactic(auto, using(flr_base::proofs::Reader::reader))]
+#[tactic(auto, using(flr_base::proofs::Reader::reader, crate::proofs::Wanting::stands_more))]
 fn read_words(
     alloc: Global,
     words: &[&[u8]],
     most: u8,
 ) -> Result<Result<State, (usize, Fault)>, NoMemory>
-    ensures { IfOk result (λ found. found ≡ reads (step most) 0 state.Start (map (λ word. word.now) words.now)) }
+    ensures exact { IfOk result (λ found. found ≡ reads (step most) 0 state.Start (map (λ word. word.now) words.now)) }
+    ensures memory { OnErr result (IsBehindForm (map (λ word. word.now) words.now)) }
 {
     let mut state = State::Start;
     for (at, word) in words.iter().enumerate() {
@@ -50,7 +51,8 @@ fn place_at(at: usize) -> u32
 fn ended(alloc: Global, state: State, most: u8) -> Result<LfsCommand, Cause>
     requires most { (0 < most) × (most ≤ 32) }
     requires good { IsGoodState state }
-    ensures { Answers result (ends most state) }
+    ensures exact { Answers result (ends most state) }
+    ensures memory { result ≡ Err causes.Memory → IsDone state }
 {
     match state {
         State::Start => Err(Cause::Missing),
@@ -64,7 +66,8 @@ fn ended(alloc: Global, state: State, most: u8) -> Result<LfsCommand, Cause>
 
 fn read(alloc: Global, words: &[&[u8]], most: u8) -> Result<LfsCommand, Cause>
     requires { (0 < most) × (most ≤ 32) }
-    ensures { Answers result (read_of most (map (λ word. word.now) words.now)) }
+    ensures exact { Answers result (read_of most (map (λ word. word.now) words.now)) }
+    ensures memory { result ≡ Err causes.Memory → IsBehindForm (map (λ word. word.now) words.now) }
 {
     let Ok(found) = read_words(alloc, words, most) else {
         return Err(Cause::Memory);
@@ -82,6 +85,7 @@ fn read(alloc: Global, words: &[&[u8]], most: u8) -> Result<LfsCommand, Cause>
 pub fn read_lfs(alloc: Global, words: &[&[u8]], most: u8) -> Result<LfsCommand, Cause>
     requires { (0 < most) × (most ≤ 32) }
     // What is read is spelt so. A refusal names the first word with which the words begin no command.
+    // Memory is wanted for what stands behind a form alone.
     ensures read { MatchResult result (λ command. Spells most (map (λ word. word.now) words.now) command) (IsCause most (map (λ word. word.now) words.now)) }
     // What is spelt so is read, unless memory runs out.
     ensures again { (command : LfsCommand) → Spells most (map (λ word. word.now) words.now) command → MatchResult result (λ found. found ≡ command) (λ cause. cause ≡ causes.Memory) }

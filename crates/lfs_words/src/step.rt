@@ -1,9 +1,10 @@
 //! One word of a command.
 
-ghost use Rattle.std.specs.Prelude.{◌≡◌};
+ghost use Rattle.std.specs.Prelude.{◌≡◌, ◌≢◌};
 ghost use Rattle.lfs_values.specs.Answers.{Gives};
+ghost use Rattle.lfs_values.specs.declared.cause.Stop.TheVariants as stops;
 ghost use Rattle.lfs_words.specs.Options.{is_apart, is_complete};
-ghost use Rattle.lfs_words.specs.Reading.{start, after_lfs, after_mirror, file, given, opened, option, word_of, step};
+ghost use Rattle.lfs_words.specs.Reading.{start, after_lfs, after_mirror, file, given, opened, option, word_of, step, IsOpen};
 ghost use Rattle.lfs_words.specs.Options.{no_mirrors};
 
 use crate::asked::{Asked, Changed, MirrorAsks, Mirrors};
@@ -34,7 +35,8 @@ pub(crate) enum State {
 
 #[tactic(auto, unfolding(crate::specs::Reading::start))]
 fn start(word: &[u8]) -> Result<State, Stop>
-    ensures { Gives result (start word.now) }
+    ensures gives { Gives result (start word.now) }
+    ensures words { result ≢ Err stops.NoMemory }
 {
     if word == b"lfs".as_slice() {
         Ok(State::Lfs)
@@ -45,7 +47,8 @@ fn start(word: &[u8]) -> Result<State, Stop>
 
 #[tactic(auto, unfolding(crate::specs::Reading::after_lfs))]
 fn after_lfs(alloc: Global, word: &[u8]) -> Result<State, Stop>
-    ensures { Gives result (after_lfs word.now) }
+    ensures gives { Gives result (after_lfs word.now) }
+    ensures words { result ≢ Err stops.NoMemory }
 {
     if word == b"mirror".as_slice() {
         Ok(State::Mirror)
@@ -69,7 +72,8 @@ fn no_mirrors(alloc: Global) -> Mirrors
 
 #[tactic(auto, unfolding(crate::specs::Reading::after_mirror))]
 fn after_mirror(alloc: Global, word: &[u8]) -> Result<State, Stop>
-    ensures { Gives result (after_mirror word.now) }
+    ensures gives { Gives result (after_mirror word.now) }
+    ensures words { result ≢ Err stops.NoMemory }
 {
     if word == b"create".as_slice() {
         Ok(State::Options(Asked::Create(no_mirrors(alloc))))
@@ -168,7 +172,9 @@ fn word_of(alloc: Global, asked: Asked, word: &[u8], most: u8) -> Result<State, 
 
 /// One more word.
 pub(crate) fn step(alloc: Global, state: State, word: &[u8], most: u8) -> Result<State, Stop>
-    ensures { Gives result (step most state word.now) }
+    ensures gives { Gives result (step most state word.now) }
+    // Memory is taken for what stands behind a form alone.
+    ensures memory { result ≡ Err stops.NoMemory → IsOpen state }
 {
     match state {
         State::Start => start(word),

@@ -9,4 +9,3 @@ pub mod TailWalk
 pub mod Whole
 pub mod ChoiceLaws
 pub mod TailLaws
-pub mod TestLayouts

@@ -63,11 +63,11 @@ pieces_of cs range failed = pieces_by (chosen cs failed) range.start range.end
 unfoldable pub first_without : List Component → ℕ → ℕ → List ℕ → Option ℕ
 first_without cs start end failed = find (λ x. not (list_any (is_candidate failed x) cs)) (range_with_len start (end - start))
 
--- why a read has no pieces: its lowest byte without a candidate, or want of memory
+-- why a read has no pieces: its lowest byte without a candidate; where each byte has one, want of memory
 abbrev pub Lacks : List Component → Range → List ℕ → PieceError → Type 0
 Lacks cs range failed (errors.AllOffline byte) = (first_without cs range.start range.end failed ≡ Some byte) × (all_offline cs byte ≡ true)
 Lacks cs range failed (errors.AllFailed byte) = (first_without cs range.start range.end failed ≡ Some byte) × (all_offline cs byte ≡ false)
-Lacks cs range failed errors.NoMemory = Unit {0}
+Lacks cs range failed errors.NoMemory = first_without cs range.start range.end failed ≡ None
 
 -- the mirror that takes a write of these bytes
 abbrev pub ready_mirror : Composite → Range → Option ℕ

@@ -20,6 +20,3 @@ pub use ready::ready_for_write;
 pub use truncating::tails;
 pub use types::{Choice, Piece, PieceError, Pieces, Tail, Tails};
 pub use writing::write_pieces;
-
-#[cfg(test)]
-mod tests;

@@ -15,7 +15,8 @@ use stripe_map::place;
 /// are in one piece exactly where the same component answers both and they lie in one of its stripe
 /// units. Where a byte has no component left, the lowest one is named.
 ///
-/// It costs as many steps as there are pieces, for each component of the layout.
+/// It costs as many steps as there are pieces, for each component of the layout. Where memory runs
+/// out, the bytes behind are looked at all the same: a byte without a component is named then too.
 pub fn pieces(
     alloc: Global,
     layout: &Layout,
@@ -52,9 +53,36 @@ pub(crate) fn pieces_in(
         };
         let piece = first_piece(components, left, failed)?;
         at = piece.range.end;
-        pieces.push(piece)?;
+        let Ok(()) = pieces.push(piece) else {
+            let behind = Range {
+                start: at,
+                end: range.end,
+            };
+            return Err(refusal_behind(components, behind, failed));
+        };
     }
     Ok(pieces)
+}
+
+/// Why there are no pieces where memory ran out before these bytes: one of them has no component
+/// left, or it is for want of memory.
+fn refusal_behind(components: &[Component], behind: Range, failed: &[u32]) -> PieceError
+    requires valid { AreValid components.now }
+    requires below { behind.end < 2 ^ 40 }
+    ensures { Lacks components.now behind failed.now result }
+{
+    let mut at = behind.start;
+    while at < behind.end {
+        let left = Range {
+            start: at,
+            end: behind.end,
+        };
+        match first_piece(components, left, failed) {
+            Ok(piece) => at = piece.range.end,
+            Err(refusal) => return refusal,
+        }
+    }
+    PieceError::NoMemory
 }
 
 /// The first piece of a range that has a byte.

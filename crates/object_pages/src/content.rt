@@ -97,6 +97,3 @@ impl Content {
         self.len = 0;
     }
 }
-
-#[cfg(test)]
-mod tests;

@@ -29,11 +29,11 @@ IsAfter old (Err (error.Old kept)) wanted new = new ≡ wanted
 IsAfter old (Err (error.Failed call)) wanted new = new ≡ wanted
 IsAfter old (Err error.NoMemory) wanted new = new ≡ old
 
--- a rot is done exactly where the object is kept, want of memory aside
+-- a rot finds no object exactly where none is kept; else it is done, or memory ran out
 abbrev pub IsRotAnswer : Option Object → Result (Unit {0}) RotError → Type 0
 IsRotAnswer kept (Ok done) = is_some kept ≡ true
 IsRotAnswer kept (Err rot.NoObject) = is_some kept ≡ false
-IsRotAnswer kept (Err rot.NoMemory) = Unit {0}
+IsRotAnswer kept (Err rot.NoMemory) = is_some kept ≡ true
 
 -- the target has the rotten byte where the rot is done, and else is as before
 abbrev pub IsAfterRot : TargetState → Result (Unit {0}) RotError → TargetState → TargetState → Type 0

@@ -62,7 +62,7 @@ pub enum TargetError {
 pub enum RotError {
     /// The target keeps no such object.
     NoObject,
-    /// Memory ran out. Nothing has changed.
+    /// Memory ran out, and the object is kept. Nothing has changed.
     NoMemory,
 }
 

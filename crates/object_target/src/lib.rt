@@ -12,6 +12,3 @@ pub use call::{CallAnswer, CallEntry, CallKind, RotError, TargetError};
 pub use fail::{Fail, FailKind};
 pub use target::Target;
 pub use targets::Targets;
-
-#[cfg(test)]
-mod tests;

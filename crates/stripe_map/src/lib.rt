@@ -12,6 +12,3 @@ pub use laws::{
 };
 pub use mapping::{back, place};
 pub use places::{Cut, Place};
-
-#[cfg(test)]
-mod tests;

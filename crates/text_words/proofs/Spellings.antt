@@ -1,12 +1,9 @@
 -- What each word is spelled as, both ways.
-use Rattle.std.proofs.Common.{◌≡◌, ℕ, ◌^◌, ◌<◌, ◌≤◌, true, false, ◌&&◌, eqb, leb, ltb, List, [], ◌∷◌, length, Option, Some, None, refl, sym, ap, ◌∙◌, arith}
+use Rattle.std.proofs.Common.{◌≡◌, ℕ, ◌^◌, ◌<◌, ◌≤◌, ◌&&◌, leb, List, Option, Some, None, refl, ap, ◌∙◌, arith}
 use Rattle.std.specs.Prelude.{option_and_then, ◌↔◌}
-use Rattle.std.specs.List.{list_all}
 use Rattle.std.specs.Fmt.{decimal}
-use Rattle.std.proofs.lemmas.Bool.{cond_both, and_parts, and_from, eqb-true, leb-true, le-leb, false_from_ne_true}
+use Rattle.std.proofs.lemmas.Bool.{cond_both, and_parts, leb-true, le-leb}
 use Rattle.text_words.specs.Numbers.{number_of, kept, number_from}
-use Rattle.text_words.specs.Names.{may_stand, is_name_to}
-use Rattle.text_words.specs.Pieces.{Lacks}
 use Rattle.text_words.proofs.Decimals.{number_takes, number_again}
 
 -- ---- numbers
@@ -44,25 +41,3 @@ from_spelled least most word n fits = (from_takes least most word n, λ h. ap (n
 
 pub to_spelled : (most : ℕ) (word : List ℕ) (n : ℕ) → most < 2 ^ 64 → ((number_from 0 most word ≡ Some n) ↔ ((n ≤ most) × (word ≡ decimal n)))
 to_spelled most word n fits = (λ e. let k = from_takes 0 most word n e in (k.1, k.2), λ h. ap (number_from 0 most) h.1 ∙ from_again 0 most n fits (omega arith) h.0)
-
--- ---- names
-
-lacks_all : (sep : ℕ) (bytes : List ℕ) → may_stand sep ≡ false → list_all may_stand bytes ≡ true → Lacks sep bytes
-lacks_all sep [] other all = tt
-lacks_all sep (c ∷ cs) other all =
-    let p = and_parts (may_stand c) (list_all may_stand cs) all in (
-      false_from_ne_true (eqb c sep) (λ t.
-          let same : c ≡ sep = eqb-true c sep t in
-          let clash : false ≡ true = sym other ∙ ap may_stand (sym same) ∙ p.0 in absurd cc),
-      lacks_all sep cs other p.1,
-    )
-
--- a name has no byte that may not stand in one
-pub name_lacks : (sep most : ℕ) (word : List ℕ) → may_stand sep ≡ false → is_name_to most word ≡ true → Lacks sep word
-name_lacks sep most [] other e = tt
-name_lacks sep most (c ∷ cs) other e =
-    let p = and_parts (eqb c 47) _ e in
-    let slash = eqb-true c 47 p.0 in
-    let q = and_parts (ltb 0 (length cs)) _ p.1 in
-    let r = and_parts (ltb (length cs) most) (list_all may_stand cs) q.1 in
-    lacks_all sep (c ∷ cs) other (and_from (may_stand c) (list_all may_stand cs) (ap may_stand slash) r.1)

@@ -2,6 +2,7 @@
 use Rattle.std.proofs.Common.{◌≡◌, ℕ, ◌+◌, ◌<◌, ◌^◌, ◌%◌, false, eqb, not, List, [], ◌∷◌, ◌++◌, length, get_or, take, refl, ap, ◌∙◌, arith}
 use Rattle.std.specs.List.{onto_first, join_with_byte, filter, AllByRecursion}
 use Rattle.std.specs.Fmt.{decimal}
+use Rattle.flr_base.proofs.Lists.{all_append}
 use Rattle.text_words.specs.Pieces.{parts_of, Lacks, AllLack}
 use Rattle.std.proofs.lemmas.Bool.{ne_eqb, eq-eqb}
 use Rattle.std.proofs.lemmas.Fmt.{decimal_by_steps}
@@ -21,8 +22,7 @@ parts-joined sep text [] h k = parts-one sep text h
 parts-joined sep text (next ∷ texts) h k = parts-first sep text (join_with_byte sep (next ∷ texts)) h ∙ ap (λ xs. text ∷ xs) (parts-joined sep next texts k.0 k.1)
 
 pub Lacks-append : (sep : ℕ) (xs ys : List ℕ) → Lacks sep xs → Lacks sep ys → Lacks sep (xs ++ ys)
-Lacks-append sep [] ys h k = k
-Lacks-append sep (x ∷ xs) ys h k = (h.0, Lacks-append sep xs ys h.1 k)
+Lacks-append sep xs ys h k = all_append (λ (byte : ℕ). eqb byte sep ≡ false) xs ys h k
 
 -- a number has digits alone
 pub digits_lack : (sep n : ℕ) → ((d : ℕ) → d < 10 → 48 + d ≡ sep → ⊥) → n < 2 ^ 64 → Lacks sep (decimal n)

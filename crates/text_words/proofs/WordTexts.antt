@@ -6,6 +6,7 @@ use Rattle.std.proofs.lemmas.Bool.{cond_both, and_parts, and_from, lt-ltb, le-le
 use Rattle.std.proofs.lemmas.Bool.Decides.{nat_tests}
 use Rattle.std.proofs.lemmas.List.{append-nil}
 use Rattle.std.proofs.lemmas.List.Folds.{list_all-append}
+use Rattle.flr_base.proofs.Lists.{all_append}
 use Rattle.text_words.specs.Lists.{list_text}
 use Rattle.text_words.specs.Names.{may_stand, is_name}
 use Rattle.text_words.specs.Pieces.{Lacks, AllLack, parts_of, words_of}
@@ -28,8 +29,7 @@ word_append [] text h k = absurd cc
 word_append (c ∷ cs) text h k = graphic_append (c ∷ cs) text h k
 
 pub words_append : (xs ys : List (List ℕ)) → AreWords xs → AreWords ys → AreWords (xs ++ ys)
-words_append [] ys h k = k
-words_append (x ∷ xs) ys h k = (h.0, words_append xs ys h.1 k)
+words_append xs ys h k = all_append IsWord xs ys h k
 
 -- ---- which texts are words
 

@@ -1,5 +1,5 @@
 -- Texts in pieces.
-use Rattle.std.specs.Prelude.{◌≡◌, ℕ, suc, List, [], ◌∷◌, length, false, not, ◌==◌, if◌then◌else◌}
+use Rattle.std.specs.Prelude.{◌≡◌, ℕ, suc, List, [], ◌∷◌, ◌++◌, length, replicate, false, not, ◌==◌, if◌then◌else◌}
 use Rattle.std.specs.List.{slice_split, filter, AllByRecursion}
 
 -- the parts between the bytes sep
@@ -14,6 +14,10 @@ words_of line = filter (λ word. not (length word == 0)) (parts_of 32 line)
 abbrev pub word_len : List ℕ → ℕ
 word_len [] = 0
 word_len (byte ∷ bytes) = if byte == 32 then 0 else suc (word_len bytes)
+
+-- the line is the word with spaces alone before it, and the rest behind it
+abbrev pub IsFirstWord : List ℕ → List ℕ → List ℕ → Type 0
+IsFirstWord word rest line = (gap : ℕ) × (line ≡ replicate gap 32 ++ word ++ rest)
 
 -- no byte of the text is sep
 abbrev pub Lacks : ℕ → List ℕ → Type 0

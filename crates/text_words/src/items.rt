@@ -1,7 +1,8 @@
 //! The items of the project's lists.
 
-ghost use Rattle.std.specs.Prelude.{◌≡◌, ◌++◌, ◌∷◌, ◌^◌, ◌-◌, OnOk};
+ghost use Rattle.std.specs.Prelude.{◌≡◌, ◌^◌, ◌-◌};
 ghost use Rattle.std.specs.Fmt.{decimal};
+ghost use Rattle.flr_base.specs.Puts.{Puts};
 ghost use Rattle.text_words.specs.Items.{two_text, two_of, object_text, object_of, call_text, call_of, left_text, left_of};
 ghost use Rattle.text_words.specs.Numbers.{number_of, number_from};
 
@@ -39,8 +40,9 @@ impl Item for u32 {
     }
 }
 
+#[tactic(auto, using(flr_base::proofs::Puts::puts))]
 fn put_two(out: &mut Vec<u8>, target: u8, number: u32) -> Result<(), NoMemory>
-    ensures { OnOk result (out.new.items ≡ out.old.items ++ two_text target number) }
+    ensures { Puts out.old.items out.new.items result (two_text target number) }
 {
     put_decimal(out, u64::from(target))?;
     out.push(b'.')?;
@@ -95,6 +97,7 @@ impl Item for Left {
 
     ghost item_of = { left_of };
 
+    #[tactic(auto, using(flr_base::proofs::Puts::puts))]
     fn put(&self, out: &mut Vec<u8>) -> Result<(), NoMemory> {
         put_decimal(out, u64::from(self.component))?;
         out.push(b'@')?;

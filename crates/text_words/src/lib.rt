@@ -26,6 +26,3 @@ pub use numbers::{number, number_in, number_to};
 pub use pieces::{line_words, parts};
 pub use put::{put_number, put_word};
 pub use sizes::{end, put_end, put_end_value, size};
-
-#[cfg(test)]
-mod tests;

@@ -1,7 +1,8 @@
-ghost use Rattle.std.specs.Prelude.{◌≡◌, ◌++◌, ◌∷◌, ◌<◌, ◌^◌, map, IfOk, OnOk};
+ghost use Rattle.std.specs.Prelude.{◌≡◌, ◌∷◌, ◌<◌, ◌^◌, map, IfOk};
 ghost use Rattle.std.specs.Fmt.{decimal};
 ghost use Rattle.std.specs.Option.{option_map};
 ghost use Rattle.std.specs.List.{flat_map};
+ghost use Rattle.flr_base.specs.Puts.{Puts};
 ghost use Rattle.text_words.specs.Lists.{SpellsList, items_of, list_of, list_text};
 ghost use Rattle.text_words.specs.Items.{object_text, call_text, left_text, IsObjectItem, IsCallItem, IsLeftItem};
 
@@ -11,7 +12,8 @@ use std::alloc::Global;
 
 /// What may stand in a list that is written as one word.
 pub trait Item {
-    ghost use Rattle.std.specs.Prelude.{List, ℕ, Option, ◌≡◌, ◌++◌, OnOk};
+    ghost use Rattle.std.specs.Prelude.{List, ℕ, Option, ◌≡◌};
+    ghost use Rattle.flr_base.specs.Puts.{Puts};
 
     // the word of an item
     ghost text: { Self → List ℕ };
@@ -19,17 +21,17 @@ pub trait Item {
     // the item that a word spells
     ghost item_of: { List ℕ → Option Self };
 
-    /// Appends the word of the item. Without memory the text may have grown by a part of it.
+    /// Appends the word of the item. Without memory the text may have grown by a front of it.
     fn put(&self, out: &mut Vec<u8>) -> Result<(), NoMemory>
-        ensures { OnOk result (out.new.items ≡ out.old.items ++ text self.now) };
+        ensures appended { Puts out.old.items out.new.items result (text self.now) };
 
     /// The item that the word spells.
     fn read(word: &[u8]) -> Option<Self>
-        ensures { result ≡ item_of word.now };
+        ensures value { result ≡ item_of word.now };
 }
 
 fn put_more<T: Item>(out: &mut Vec<u8>, items: &[T]) -> Result<(), NoMemory>
-    ensures { OnOk result (out.new.items ≡ out.old.items ++ flat_map (λ next. 44 ∷ T.text next) items.now) }
+    ensures { Puts out.old.items out.new.items result (flat_map (λ next. 44 ∷ T.text next) items.now) }
 {
     for item in items {
         out.push(b',')?;
@@ -39,9 +41,10 @@ fn put_more<T: Item>(out: &mut Vec<u8>, items: &[T]) -> Result<(), NoMemory>
 }
 
 /// Appends the items as one word: joined by commas, and `-` for none. Without memory the text may have
-/// grown by a part of it.
+/// grown by a front of it.
+#[tactic(auto, using(flr_base::proofs::Puts::puts))]
 pub fn put_list<T: Item>(out: &mut Vec<u8>, items: &[T]) -> Result<(), NoMemory>
-    ensures appended { OnOk result (out.new.items ≡ out.old.items ++ list_text T.text items.now) }
+    ensures appended { Puts out.old.items out.new.items result (list_text T.text items.now) }
 {
     match items {
         [] => {

@@ -1,4 +1,5 @@
-ghost use Rattle.std.specs.Prelude.{◌≡◌, ℕ, ◌++◌, ◌↔◌, Some, OnOk, codes};
+ghost use Rattle.std.specs.Prelude.{◌≡◌, ℕ, ◌↔◌, Some, codes};
+ghost use Rattle.flr_base.specs.Puts.{Puts};
 ghost use Rattle.text_words.specs.Sizes.{unit_of, units, size_of, IsSize, is_eof, end_of, IsEnd, end_text};
 
 use crate::numbers::{number, number_to};
@@ -70,8 +71,9 @@ pub fn end(word: &[u8]) -> Option<u64>
     read_end(word)
 }
 
+#[tactic(auto, using(flr_base::proofs::Puts::puts))]
 fn put_end_or(out: &mut Vec<u8>, end: u64, eof: &[u8]) -> Result<(), NoMemory>
-    ensures { OnOk result (out.new.items ≡ out.old.items ++ end_text eof.now end) }
+    ensures { Puts out.old.items out.new.items result (end_text eof.now end) }
 {
     if end == EOF {
         out.extend_from_slice(eof)?;
@@ -80,18 +82,18 @@ fn put_end_or(out: &mut Vec<u8>, end: u64, eof: &[u8]) -> Result<(), NoMemory>
     put_decimal(out, end)
 }
 
-/// Appends an end in bytes, with `EOF` for `EOF`. Without memory the text may have grown by a part of
+/// Appends an end in bytes, with `EOF` for `EOF`. Without memory the text may have grown by a front of
 /// it.
 pub fn put_end(out: &mut Vec<u8>, end: u64) -> Result<(), NoMemory>
-    ensures appended { OnOk result (out.new.items ≡ out.old.items ++ end_text (codes "EOF") end) }
+    ensures appended { Puts out.old.items out.new.items result (end_text (codes "EOF") end) }
 {
     put_end_or(out, end, b"EOF")
 }
 
 /// Appends an end in bytes, with `-1` for `EOF`, as an option of a command has it. Without memory the
-/// text may have grown by a part of it.
+/// text may have grown by a front of it.
 pub fn put_end_value(out: &mut Vec<u8>, end: u64) -> Result<(), NoMemory>
-    ensures appended { OnOk result (out.new.items ≡ out.old.items ++ end_text (codes "-1") end) }
+    ensures appended { Puts out.old.items out.new.items result (end_text (codes "-1") end) }
 {
     put_end_or(out, end, b"-1")
 }

@@ -1,4 +1,6 @@
-ghost use Rattle.std.specs.Prelude.{◌≡◌, ◌<◌, ◌^◌, ◌++◌, length, IfOk, OnOk};
+ghost use Rattle.std.specs.Prelude.{◌≡◌, ◌<◌, ◌^◌, ◌∷◌, length, IfOk};
+ghost use Rattle.std.specs.List.{flat_map};
+ghost use Rattle.flr_base.specs.Puts.{Puts};
 ghost use Rattle.flr_base.specs.Runs.{AreRuns, Spells, run_text, runs_text, bytes_of, runs_of, text_of_bytes};
 
 use crate::digits::{put_decimal, put_hex};
@@ -34,8 +36,9 @@ fn group(alloc: Global, bytes: &[u8]) -> Result<Vec<Run>, NoMemory>
     Ok(runs)
 }
 
+#[tactic(auto, using(crate::proofs::Puts::puts))]
 fn put_run(out: &mut Vec<u8>, run: Run) -> Result<(), NoMemory>
-    ensures { OnOk result (out.new.items ≡ out.old.items ++ run_text run) }
+    ensures { Puts out.old.items out.new.items result (run_text run) }
 {
     put_hex(out, run.byte)?;
     out.push(b'*')?;
@@ -43,21 +46,32 @@ fn put_run(out: &mut Vec<u8>, run: Run) -> Result<(), NoMemory>
     Ok(())
 }
 
-/// Appends the spelling of the runs.
-fn put_runs(out: &mut Vec<u8>, runs: &[Run]) -> Result<(), NoMemory>
-    ensures { OnOk result (out.new.items ≡ out.old.items ++ runs_text runs.now) }
+/// Appends the runs, each behind a plus.
+fn put_more(out: &mut Vec<u8>, runs: &[Run]) -> Result<(), NoMemory>
+    ensures { Puts out.old.items out.new.items result (flat_map (λ x. 43 ∷ run_text x) runs.now) }
 {
-    match runs {
-        [] => out.push(b'-')?,
-        [first, others @ ..] => {
-            put_run(out, *first)?;
-            for run in others {
-                out.push(b'+')?;
-                put_run(out, *run)?;
-            }
-        }
+    for run in runs {
+        out.push(b'+')?;
+        put_run(out, *run)?;
     }
     Ok(())
+}
+
+/// Appends the spelling of the runs.
+#[tactic(auto, using(crate::proofs::Puts::puts))]
+fn put_runs(out: &mut Vec<u8>, runs: &[Run]) -> Result<(), NoMemory>
+    ensures { Puts out.old.items out.new.items result (runs_text runs.now) }
+{
+    match runs {
+        [] => {
+            out.push(b'-')?;
+            Ok(())
+        }
+        [first, others @ ..] => {
+            put_run(out, *first)?;
+            put_more(out, others)
+        }
+    }
 }
 
 /// The runs of the bytes: the longest stretches of one byte, in their order.

@@ -15,4 +15,4 @@ pub returns-in-Ok-Refusal-clause-write_front : goal.returns-in-Ok-Refusal-clause
 returns-in-Ok-Refusal-clause-write_front g c e =
     let text = c.as_slice-in-Ok-Refusal.result.now in
     let is = subst (λ (b : List ℕ). IsRefusal b text) c.as_slice.ensures.same (subst (λ (t : List ℕ). IsRefusal c.as_slice.result.now t) (sym c.as_slice-in-Ok-Refusal.ensures.value) (subst (λ (o : Outcome). IsOutcome c.as_slice.result.now o) c.in-Ok-Refusal.field-0-is c.in-Ok-Refusal.ensures)) in
-    tells_front (g.S.Source.left c.args.input.now) (g.S.Source.left c.read_all.new.source) (g.K.Sink.taken c.args.out.now) (g.K.Sink.taken c.written-in-Ok-Refusal.new.out) c.in-Ok.bytes text c.in-Ok.ensures.whole (inr (inl is)) (c.written-in-Ok-Refusal.ensures.front e)
+    tells_front (g.S.Source.left c.args.input.now) (g.S.Source.left c.read_all.new.source) (g.K.Sink.taken c.args.out.now) (g.K.Sink.taken c.written-in-Ok-Refusal.new.out) (g.S.Source.faults c.args.input.now) (g.S.Source.faults c.read_all.new.source) c.in-Ok.bytes text c.in-Ok.ensures.whole (inr (inl is)) (c.written-in-Ok-Refusal.ensures.front e)

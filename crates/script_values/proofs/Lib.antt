@@ -1,0 +1,9 @@
+pub mod CommandLaws
+pub mod Measures
+pub mod RunTexts
+pub mod RunWordLaws
+pub mod WorkLaws
+pub mod Created
+pub mod Drawing
+pub mod ScriptTexts
+pub mod Generated

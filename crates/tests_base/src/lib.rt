@@ -1,0 +1,16 @@
+//! Tests of what every crate stands on, of the parts of texts, and of the first path's scripts: worked
+//! rows, failures in mid-stream, and each public call once.
+#![tactic(auto)]
+
+#[cfg(test)]
+mod ends;
+#[cfg(test)]
+mod lists;
+#[cfg(test)]
+mod printers;
+#[cfg(test)]
+mod readers;
+#[cfg(test)]
+mod runs;
+#[cfg(test)]
+mod scripts;
