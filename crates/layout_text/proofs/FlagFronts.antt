@@ -1,5 +1,5 @@
 -- The names of flags, put one behind the other.
-use Rattle.std.proofs.Common.{◌≡◌, ℕ, Bool, true, false, cond, List, [], ◌∷◌, ◌++◌, refl, sym, ap, subst, ◌∙◌}
+use Rattle.std.proofs.Common.{◌≡◌, ℕ, Bool, true, false, cond, List, [], ◌++◌, refl, sym, subst}
 use Rattle.std.specs.Prelude.{◌||◌, codes}
 use Rattle.flr_base.specs.Puts.{PutsFront}
 use Rattle.flr_base.proofs.Puts.{front_none, front_more, front_join}

@@ -14,7 +14,7 @@ use Rattle.flr_base.proofs.Reader.{ok_of, ok_step, run_ok}
 use Rattle.flr_base.proofs.Spelled.{line_by}
 use Rattle.text_words.specs.Lines.{onto_line, lines_of, text_of, unended}
 use Rattle.text_words.specs.Pieces.{Lacks, AllLack}
-use Rattle.text_words.proofs.LineLaws.{lines-text, text-lines, no_line}
+use Rattle.text_words.proofs.LineLaws.{text-lines}
 use Rattle.composite_layout.specs.declared.component.Component.{Component}
 use Rattle.composite_layout.specs.Layouts.{Composite, IsValid}
 use Rattle.layout_text.specs.declared.line.Head.{Head}
@@ -35,7 +35,7 @@ use Rattle.layout_text.proofs.Lasting.{moved_left, decide}
 use Rattle.layout_text.proofs.LineTexts.{print}
 use Rattle.layout_text.proofs.WordLaws.{lines_of-layout, texts_lack}
 use Rattle.layout_text.proofs.HeadLaws.{from_good, few}
-use Rattle.layout_text.proofs.ReadLaws.{start, text_step, text_step_is, reads_texts, AreTexts, to_texts, from_texts, same_fault, ReadAs, read_as, found, printed, went, placed, text_of_lines, one_layout}
+use Rattle.layout_text.proofs.ReadLaws.{start, text_step, text_step_is, reads_texts, AreTexts, to_texts, from_texts, same_fault, ReadAs, read_as, found, printed, went, placed, one_layout}
 
 -- ---- no layout's lines are the beginning of another's
 

@@ -1,8 +1,8 @@
 -- A text is the printed form of a command exactly where it is read as that command.
-use Rattle.std.proofs.Common.{◌≡◌, ℕ, ◌+◌, ◌*◌, ◌-◌, ◌/◌, ◌%◌, ◌^◌, ◌<◌, ◌≤◌, Bool, true, false, cond, ◌&&◌, eqb, ltb, leb, List, [], ◌∷◌, ◌++◌, length, Result, Ok, Err, Option, Some, None, refl, sym, ap, subst, ◌∙◌, arith}
+use Rattle.std.proofs.Common.{◌≡◌, ℕ, ◌+◌, ◌*◌, ◌-◌, ◌/◌, ◌%◌, ◌^◌, ◌<◌, ◌≤◌, Bool, true, false, cond, ◌&&◌, ltb, leb, List, [], ◌∷◌, length, Result, Ok, Err, Option, Some, None, refl, sym, ap, subst, ◌∙◌, arith}
 use Rattle.std.specs.Prelude.{codes, option_and_then, MatchOption, IfOk, IfSome, ◌↔◌}
 use Rattle.std.specs.Option.{option_map}
-use Rattle.std.specs.List.{join_with_byte, AllByRecursion}
+use Rattle.std.specs.List.{join_with_byte}
 use Rattle.std.specs.Str.{bytes_eq}
 use Rattle.std.specs.Fmt.{decimal, digit_glyph}
 use Rattle.std.proofs.lemmas.Bool.{cond_both, and_parts, and_from, ltb-true, leb-true, lt-ltb, le-leb}
@@ -12,17 +12,16 @@ use Rattle.flr_base.specs.declared.reply.ObjectId.{ObjectId}
 use Rattle.flr_base.specs.Runs.{hex, text_of_bytes}
 use Rattle.flr_base.proofs.RunLaws.{hex_is}
 use Rattle.text_words.specs.Bytes.{hex_digit, hex_byte}
-use Rattle.text_words.specs.Items.{object_text, object_of, IsObjectItem}
+use Rattle.text_words.specs.Items.{object_text, object_of}
 use Rattle.text_words.specs.Names.{is_name}
 use Rattle.text_words.specs.Numbers.{number_from}
 use Rattle.text_words.specs.Pieces.{Lacks, parts_of}
 use Rattle.text_words.specs.Words.{is_graphic, IsWord, AreWords}
 use Rattle.text_words.proofs.OneWords.{object_one_word}
 use Rattle.text_words.proofs.Spellings.{from_takes, from_again}
-use Rattle.text_words.proofs.WordTexts.{decimal_word, name_word, graphic_append, word_append, word_graphic, parts_of-spaced, spaced_lacks}
+use Rattle.text_words.proofs.WordTexts.{decimal_word, name_word, word_append, word_graphic, parts_of-spaced, spaced_lacks}
 use Rattle.lfs_values.specs.declared.cause.Cause.{Cause}
 use Rattle.lfs_words.specs.declared.command.LfsCommand.{LfsCommand}
-use Rattle.lfs_words.specs.Grammar.{Spells}
 use Rattle.lfs_words.specs.Printing.{words_of_command, text_of_command}
 use Rattle.lfs_words.specs.Reading as lfs
 use Rattle.lfs_words.proofs.Answering as answering

@@ -1,12 +1,10 @@
 -- The commands of lfs that the generator makes are spelled by words.
-use Rattle.std.proofs.Common.{◌≡◌, List, [], ◌∷◌, ◌++◌, Ok, None, refl}
+use Rattle.std.proofs.Common.{◌≡◌, List, [], ◌∷◌, Ok, None, refl}
 use Rattle.std.specs.Prelude.{ℕ, codes}
-use Rattle.std.specs.Str.{bytes_eq, all_ascii_digits}
-use Rattle.std.specs.Str.Parse.{digits_value}
 use Rattle.text_words.specs.Names.{is_name}
 use Rattle.text_words.specs.Numbers.{number_of, number_from}
-use Rattle.text_words.specs.Sizes.{size_of, end_of}
-use Rattle.lfs_values.specs.Keys.{exact_key, front_key, key_of, value_of}
+use Rattle.text_words.specs.Sizes.{size_of}
+use Rattle.lfs_values.specs.Keys.{exact_key, front_key, key_of}
 use Rattle.lfs_values.specs.Values.{stripe_size_of, stripe_count_of, mirror_count_of}
 use Rattle.lfs_words.specs.Reading.{start, after_lfs, after_mirror, read_of}
 use Rattle.lfs_words.specs.declared.command.LfsCommand.TheVariants as lfs

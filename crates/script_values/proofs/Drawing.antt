@@ -1,5 +1,5 @@
 -- Commands that are drawn one after the other.
-use Rattle.std.proofs.Common.{◌≡◌, ℕ, suc, ◌+◌, ◌-◌, ◌<◌, ◌≤◌, List, [], ◌∷◌, ◌++◌, refl, sym, ap, ◌∙◌, append_assoc, arith}
+use Rattle.std.proofs.Common.{◌≡◌, ℕ, suc, ◌+◌, ◌-◌, ◌<◌, ◌≤◌, List, [], ◌∷◌, ◌++◌, sym, ap, ◌∙◌, append_assoc, arith}
 use Rattle.std.proofs.lemmas.List.{append-nil}
 use Rattle.script_values.specs.declared.command.Command.{Command}
 use Rattle.script_values.specs.Generator.{drawn_command, DrawnList, onto_list, drawn_commands, DrawnClients, onto_clients, drawn_clients, with_first}

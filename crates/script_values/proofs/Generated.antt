@@ -1,20 +1,19 @@
 -- The scripts that the generator makes are within every limit.
-use Rattle.std.proofs.Common.{◌≡◌, ℕ, zero, suc, ◌+◌, ◌-◌, ◌*◌, ◌/◌, ◌%◌, ◌^◌, ◌<◌, ◌≤◌, eqb, ltb, cond, true, List, [], ◌∷◌, ◌++◌, length, min, max, replicate, refl, sym, ap, subst, ◌∙◌, arith}
-use Rattle.std.specs.List.{AllByRecursion, IsDistinct, flat_map, sum_by}
+use Rattle.std.proofs.Common.{◌≡◌, ℕ, zero, suc, ◌+◌, ◌*◌, ◌%◌, ◌<◌, ◌≤◌, eqb, ltb, cond, true, List, [], ◌∷◌, ◌++◌, length, max, replicate, refl, ap, subst, ◌∙◌, arith}
+use Rattle.std.specs.List.{AllByRecursion, IsDistinct, sum_by}
 use Rattle.std.proofs.Math.Nat.{zero-mul}
 use Rattle.std.proofs.lemmas.Bool.{cond_both}
 use Rattle.std.proofs.lemmas.List.{length-append, length-replicate}
 use Rattle.std.proofs.lemmas.List.Sums.{sum_by-cons}
 use Rattle.text_words.specs.Names.{is_name}
-use Rattle.lfs_words.specs.declared.command.LfsCommand.TheVariants as lfs
 use Rattle.object_target.specs.declared.fail.Fail.{Fail}
 use Rattle.script_values.specs.declared.bases.Reach.{Reach}
 use Rattle.script_values.specs.declared.command.Command.{Command}
 use Rattle.script_values.specs.declared.command.Command.TheVariants as commands
 use Rattle.script_values.specs.Commands.{IsCommand}
-use Rattle.script_values.specs.Scripts.{ScriptView, all_commands, bytes_of, bytes_of_script, work_of, is_same_call, IsWellFormed, IsScript}
-use Rattle.script_values.specs.Work.{greatest_by, end_of, greatest_end, stripes_of_command, reach_of, base_of, blocks_of, evictions_of, work_of_parts}
-use Rattle.script_values.specs.Generator.{next_state, drawn, second, third, Drawn, file, drawn_offset, drawn_length, drawn_write, drawn_read, drawn_by, drawn_command, drawn_commands, drawn_clients, resync, verify, mirror, create, with_first, script_from}
+use Rattle.script_values.specs.Scripts.{ScriptView, all_commands, bytes_of, is_same_call, IsScript}
+use Rattle.script_values.specs.Work.{greatest_by, end_of, greatest_end, stripes_of_command, base_of, blocks_of, evictions_of, work_of_parts}
+use Rattle.script_values.specs.Generator.{next_state, drawn, second, third, Drawn, file, drawn_offset, drawn_length, drawn_write, drawn_read, drawn_by, drawn_command, drawn_commands, drawn_clients, resync, verify, create, with_first, script_from}
 use Rattle.script_values.proofs.Created.{resync_spelled, verify_spelled, create_spelled}
 use Rattle.script_values.proofs.Measures.{greatest-cons}
 use Rattle.script_values.proofs.RunTexts.{all_one}

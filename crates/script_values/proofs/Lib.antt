@@ -7,3 +7,4 @@ pub mod Created
 pub mod Drawing
 pub mod ScriptTexts
 pub mod Generated
+pub mod Ends

@@ -1,13 +1,12 @@
 -- The bytes that a word spells by runs are found, and no others.
-use Rattle.std.proofs.Common.{◌≡◌, ℕ, ◌+◌, ◌*◌, ◌-◌, ◌/◌, ◌%◌, ◌^◌, ◌<◌, ◌≤◌, Bool, true, false, cond, not, ◌&&◌, eqb, ltb, leb, List, [], ◌∷◌, ◌++◌, length, map, Option, Some, None, Result, Ok, Err, refl, sym, ap, subst, ◌∙◌, arith}
-use Rattle.std.specs.Prelude.{codes, unwrap_or, MatchResult}
-use Rattle.std.specs.List.{list_all, flat_map, join_with_byte, AllByRecursion}
+use Rattle.std.proofs.Common.{◌≡◌, ℕ, ◌+◌, ◌*◌, ◌/◌, ◌%◌, ◌^◌, ◌<◌, ◌≤◌, Bool, true, false, cond, ◌&&◌, eqb, ltb, leb, List, [], ◌∷◌, ◌++◌, length, map, Option, Some, None, Result, Ok, Err, refl, sym, ap, subst, ◌∙◌, arith}
+use Rattle.std.specs.Prelude.{codes, MatchResult}
+use Rattle.std.specs.List.{list_all, join_with_byte}
 use Rattle.std.specs.Str.{bytes_eq}
-use Rattle.std.specs.Fmt.{decimal, digit_glyph}
-use Rattle.std.proofs.lemmas.Bool.{cond_both, and_parts, and_from, ltb-true, leb-true, lt-ltb, le-leb, ne_eqb, false_from_ne_true}
+use Rattle.std.specs.Fmt.{digit_glyph}
+use Rattle.std.proofs.lemmas.Bool.{and_parts, and_from, ltb-true, leb-true, lt-ltb, le-leb, false_from_ne_true}
 use Rattle.std.proofs.lemmas.Bool.Decides.{nat_tests}
 use Rattle.std.proofs.lemmas.List.{append-nil}
-use Rattle.std.proofs.lemmas.List.Concat.{flat_map-cons}
 use Rattle.std.proofs.lemmas.Slice.Eq.{bytes_eq-Decides}
 use Rattle.flr_base.specs.Runs.{hex, run_text, runs_text, bytes_of, AreRuns, AreRunsAfter, Spells, text_of_bytes}
 use Rattle.flr_base.specs.declared.runs.run.Run.{Run}
@@ -16,10 +15,9 @@ use Rattle.flr_base.specs.declared.runs.fault.RunsError.TheVariants as errors
 use Rattle.flr_base.specs.RunsAnswers.{IsFault}
 use Rattle.flr_base.proofs.RunLaws.{one_value}
 use Rattle.text_words.specs.Bytes.{hex_digit, hex_byte}
-use Rattle.text_words.specs.Numbers.{number_of}
 use Rattle.text_words.specs.Pieces.{Lacks, AllLack, parts_of}
 use Rattle.text_words.proofs.Decimals.{number_again}
-use Rattle.text_words.proofs.Splits.{parts-joined, decimal_lacks, Lacks-append}
+use Rattle.text_words.proofs.Splits.{parts-joined, decimal_lacks}
 use Rattle.script_values.specs.RunWords.{run_of, bytes_by_runs, is_text_of, bytes_from}
 use Rattle.script_values.proofs.RunTexts.{AreAllBytes, spells_them, spelled_bytes}
 

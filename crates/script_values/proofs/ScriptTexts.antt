@@ -1,9 +1,9 @@
 -- The lines of a script, as they are appended.
-use Rattle.std.proofs.Common.{◌≡◌, ℕ, zero, suc, ◌+◌, ◌<◌, ◌≤◌, List, [], ◌∷◌, ◌++◌, length, get_or, drop, map, Result, Ok, Err, refl, sym, ap, subst, ◌∙◌, append_assoc, arith}
+use Rattle.std.proofs.Common.{◌≡◌, ℕ, zero, suc, ◌+◌, ◌<◌, List, [], ◌∷◌, ◌++◌, length, get_or, drop, map, Result, Ok, Err, sym, ap, ◌∙◌, append_assoc, arith}
 use Rattle.std.specs.Prelude.{OnOk, codes}
 use Rattle.std.specs.List.{flat_map, AllByRecursion}
 use Rattle.std.proofs.lemmas.Grind.{flat_map-append}
-use Rattle.std.proofs.lemmas.List.{append-nil, at_drop_more}
+use Rattle.std.proofs.lemmas.List.{at_drop_more}
 use Rattle.std.proofs.lemmas.List.Folds.{flat_map-map}
 use Rattle.text_words.specs.Lines.{text_of}
 use Rattle.object_target.specs.declared.fail.Fail.{Fail}
@@ -11,7 +11,7 @@ use Rattle.script_values.specs.declared.command.Command.{Command}
 use Rattle.script_values.specs.declared.command.Command.TheVariants as commands
 use Rattle.script_values.specs.Commands.{IsCommand, IsSpellable}
 use Rattle.script_values.specs.Scripts.{ScriptView, IsScript}
-use Rattle.script_values.specs.Texts.{command_text, fail_line, number_line, client_block, client_lines, script_lines, text_of_script}
+use Rattle.script_values.specs.Texts.{command_text, fail_line, number_line, client_block, client_lines, text_of_script}
 
 -- ---- commands that may stand have a text
 

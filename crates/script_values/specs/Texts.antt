@@ -1,5 +1,7 @@
 -- The one printed form of commands and scripts.
-use Rattle.std.specs.Prelude.{ℕ, ◌+◌, List, [], ◌∷◌, ◌++◌, map, codes}
+use Rattle.std.specs.Prelude.{◌≡◌, ℕ, ◌+◌, Bool, false, List, [], ◌∷◌, ◌++◌, map, codes}
+use Rattle.std.specs.List.{AllByRecursion}
+use Rattle.std.specs.Str.{bytes_eq}
 use Rattle.std.specs.Fmt.{decimal}
 use Rattle.flr_base.specs.Runs.{hex, text_of_bytes}
 use Rattle.text_words.specs.Items.{object_text}
@@ -21,6 +23,13 @@ words_of (commands.Truncate name size) = codes "truncate" ∷ name ∷ decimal s
 words_of (commands.Lfs command) = words_of_command command
 words_of (commands.Evict client) = codes "evict" ∷ decimal client ∷ []
 words_of (commands.Rot object offset byte) = codes "rot" ∷ object_text object ∷ decimal offset ∷ hex byte ∷ []
+
+-- the word that parts a command from its reply in a report
+abbrev pub is_equals : List ℕ → Bool
+is_equals word = bytes_eq word (codes "=")
+
+abbrev pub AreNoEquals : List (List ℕ) → Type 0
+AreNoEquals words = AllByRecursion (λ word. is_equals word ≡ false) words
 
 -- its text, with one space between words
 abbrev pub command_text : Command → List ℕ

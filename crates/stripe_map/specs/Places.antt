@@ -1,5 +1,5 @@
 -- RAID0: the object, by its stripe, and the offset there that hold a byte of the file.
-use Rattle.std.specs.Prelude.{◌≡◌, ℕ, ◌+◌, ◌*◌, ◌/◌, ◌%◌, ◌≤◌, ◌==◌, nat_lt, if◌then◌else◌}
+use Rattle.std.specs.Prelude.{ℕ, ◌+◌, ◌*◌, ◌/◌, ◌%◌, ◌==◌, nat_lt, if◌then◌else◌}
 use Rattle.flr_base.specs.declared.reply.Stripe.{Stripe}
 use Rattle.stripe_map.specs.declared.places.Place.{Place}
 

@@ -1,5 +1,5 @@
 -- One more mirror, and all of them.
-use Rattle.std.proofs.Common.{◌+◌, ap, ◌∙◌, refl, ◌∷◌, [], ◌++◌}
+use Rattle.std.proofs.Common.{◌+◌, ap, ◌∙◌, refl, ◌++◌}
 use Rattle.composite_layout.specs.Making.{new_mirrors, new_parts}
 use Rattle.composite_layout.proofs.Steps.{all_done, counted_more, made_more}
 use Rattle.composite_layout.proofs.make.new_mirrors.Goals as goal

@@ -1,4 +1,4 @@
-use Rattle.std.proofs.Common.{[], ◌∷◌, ◌++◌, ap, subst}
+use Rattle.std.proofs.Common.{[], ◌∷◌, ◌++◌, subst}
 use Rattle.std.specs.Prelude.{codes, ℕ}
 use Rattle.std.specs.Fmt.{decimal}
 use Rattle.flr_base.specs.Puts.{Puts}

@@ -1,4 +1,4 @@
-use Rattle.std.proofs.Common.{[], ◌∷◌, ◌++◌}
+use Rattle.std.proofs.Common.{◌++◌}
 use Rattle.std.specs.Prelude.{codes}
 use Rattle.layout_text.specs.Appending.{marks_words, shape_words, component_text}
 use Rattle.layout_text.proofs.PrintLaws.{follow, line_end, first_line_err, next_line_err, last_line_err}

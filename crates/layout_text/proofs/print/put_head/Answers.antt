@@ -1,4 +1,4 @@
-use Rattle.std.proofs.Common.{[], ◌∷◌, ◌++◌, length}
+use Rattle.std.proofs.Common.{◌++◌, length}
 use Rattle.std.specs.Prelude.{codes}
 use Rattle.layout_text.specs.Appending.{front_words, counts_words, head_text}
 use Rattle.layout_text.proofs.PrintLaws.{follow, line_end, first_line_err, next_line_err, last_line_err}
