@@ -1,0 +1,4 @@
+pub mod Servers
+pub mod Steps
+pub mod Runs
+pub mod Pieces

@@ -1,0 +1,8 @@
+//! What is claimed of every run, in the words of those who use files and mirrors.
+#![tactic(auto)]
+
+mod files;
+mod histories;
+
+pub use files::{fits_itself, lands_whole};
+pub use histories::ended_comes_before;

@@ -1,0 +1,12 @@
+pub mod Files
+pub mod Listing
+pub mod Layouts
+pub mod Outcomes
+pub mod Conditions
+pub mod Opening
+pub mod Closing
+pub mod Beginning
+pub mod Ending
+pub mod Naming
+pub mod Sound
+pub mod Keeping

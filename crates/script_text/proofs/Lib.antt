@@ -1,0 +1,15 @@
+pub mod Agains
+pub mod CommandLaws
+pub mod FailLists
+pub mod Founds
+pub mod Keeps
+pub mod LeadLaws
+pub mod Parts
+pub mod Printed
+pub mod ReplayAgains
+pub mod ReplayLaws
+pub mod ScheduleLaws
+pub mod SlotLaws
+pub mod TextLineLaws
+pub mod Together
+pub mod Wholly

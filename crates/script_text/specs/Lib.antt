@@ -1,0 +1,12 @@
+pub mod Answers
+pub mod CommandLines
+pub mod Grammar
+pub mod HeadLines
+pub mod Keeping
+pub mod Leads
+pub mod Replays
+pub mod Schedules
+pub mod Slots
+pub mod Step
+pub mod TextLines
+pub mod Wholes

@@ -1,0 +1,25 @@
+//! Scripts and replay inputs as text: every spelling is read as the script that it spells, and every
+//! other input is refused by its one cause. The format is this project's own.
+#![tactic(auto)]
+
+mod command_lines;
+mod error;
+mod evictions;
+mod fails;
+mod head_lines;
+mod lead;
+mod lines;
+mod read;
+mod replay;
+mod round_trip;
+mod runs;
+mod schedule;
+mod slots;
+mod state;
+mod step;
+
+pub use error::ScriptError;
+pub use read::read_script;
+pub use replay::read_replay;
+pub use round_trip::through_text;
+pub use script_values::What;
