@@ -1,9 +1,9 @@
 -- The points of a linear history ascend, so that what ended first stands first.
-use Rattle.std.proofs.Common.{◌≡◌, ℕ, ◌+◌, ◌-◌, ◌<◌, ◌≤◌, ◌⊎◌, List, [], ◌∷◌, map, Some, slice_get, zero, suc, refl, sym, ap, subst, ◌∙◌, arith, inl, inr}
+use Rattle.std.proofs.Common.{◌≡◌, ℕ, ◌<◌, ◌≤◌, List, [], ◌∷◌, map, Some, slice_get, zero, suc, sym, subst, ◌∙◌, arith, inl, inr}
 use Rattle.std.proofs.lemmas.Bool.{cases_lt}
 use Rattle.std.specs.List.{AllByRecursion}
 use Rattle.flr_base.specs.declared.reply.Entry.{Entry}
-use Rattle.flr_claims.specs.Histories.{Answered, ArePointsAfter, IsWithinInterval, IsLinear, EndedComesBefore}
+use Rattle.flr_claims.specs.Histories.{Answered, ArePointsAfter, IsWithinInterval, EndedComesBefore}
 
 abbrev entry_of : Answered → Entry
 entry_of a = a.entry

@@ -1,5 +1,5 @@
 -- Plain files: what a user of files knows of them, without mirrors, targets or locks.
-use Rattle.std.specs.Prelude.{◌≡◌, ◌↔◌, ℕ, ◌+◌, ◌-◌, ◌≤◌, ◌<◌, max, Bool, true, ◌&&◌, ◌||◌, nat_eq, nat_le, nat_lt, List, [], ◌∷◌, length, map, if◌then◌else◌, Option, None, Some, get_or}
+use Rattle.std.specs.Prelude.{◌≡◌, ◌↔◌, ℕ, ◌+◌, ◌-◌, ◌≤◌, ◌<◌, max, Bool, true, ◌&&◌, nat_eq, nat_le, nat_lt, List, [], ◌∷◌, length, map, if◌then◌else◌, Option, None, Some, get_or}
 use Rattle.std.specs.List.{range_with_len, list_any, slice_index_or}
 use Rattle.std.specs.Str.{bytes_eq}
 use Rattle.flr_base.specs.Bytes.{overlay}
