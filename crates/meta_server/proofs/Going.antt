@@ -24,7 +24,7 @@ one_place (f ∷ fs) asc (suc a) zero h k e = let less : f.number < (file_at fs 
 one_place (f ∷ fs) asc (suc a) (suc b) h k e = ap suc (one_place fs asc.1 a b (omega arith) (omega arith) e)
 
 -- the file that is found has the name
-name_found : (name : List ℕ) (files : List File) (f : File) → file_named name files ≡ Some f → f.name ≡ name
+pub name_found : (name : List ℕ) (files : List File) (f : File) → file_named name files ≡ Some f → f.name ≡ name
 name_found name [] f h = absurd (cc)
 name_found name (x ∷ xs) f h = by (same_name name x.name) refl h (name_found name xs f)
   where
@@ -77,11 +77,11 @@ module _ (p : File → Bool) where
   above_filter m [] h = tt
   above_filter m (f ∷ fs) h = elim (p f) as (λ b. AllByRecursion (λ (g : File). m < g.number) (cond b (f ∷ filter p fs) (filter p fs))) [ true ↦ (h.0, above_filter m fs h.1) | false ↦ above_filter m fs h.1 ]
 
-  ascending_filter : (files : List File) → AreAscending files → AreAscending (filter p files)
+  pub ascending_filter : (files : List File) → AreAscending files → AreAscending (filter p files)
   ascending_filter [] h = tt
   ascending_filter (f ∷ fs) h = elim (p f) as (λ b. AreAscending (cond b (f ∷ filter p fs) (filter p fs))) [ true ↦ (above_filter f.number fs h.0, ascending_filter fs h.1) | false ↦ ascending_filter fs h.1 ]
 
-  below_filter : (next : ℕ) (files : List File) → AreBelow next files → AreBelow next (filter p files)
+  pub below_filter : (next : ℕ) (files : List File) → AreBelow next files → AreBelow next (filter p files)
   below_filter next [] h = tt
   below_filter next (f ∷ fs) h = elim (p f) as (λ b. AreBelow next (cond b (f ∷ filter p fs) (filter p fs))) [ true ↦ (h.0, below_filter next fs h.1) | false ↦ below_filter next fs h.1 ]
 

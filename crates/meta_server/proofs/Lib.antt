@@ -3,6 +3,7 @@ pub mod Leasing
 pub mod Kept
 pub mod Going
 pub mod Fields
+pub mod Added
 pub mod SoundFiles
 pub mod Coming
 pub mod Both

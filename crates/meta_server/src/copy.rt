@@ -37,13 +37,12 @@ impl Meta {
     /// `TooManyComponents`, `Busy` of either and `AllOffline` of either, and waits for our file and
     /// then for the other. Both leases are taken.
     ///
-    /// The step is one in which no lease is broken, since none stands where a copy begins.
+    /// No lease is broken, since none stands where a copy begins.
     pub fn begin_copy(
         &mut self,
         client: u8,
         name: &Name,
         what: &CopyWhat,
-        _step: u32,
     ) -> Result<Begun, MetaStop>
         requires client { IsClient client }
         requires no_key { keys_of client self.old.leases.keys ≡ [] }

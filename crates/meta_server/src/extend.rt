@@ -11,10 +11,10 @@ ghost use Rattle.meta_server.specs.Outcomes.{Meets};
 
 use crate::answers::{Begun, MetaStop};
 use crate::meta::Meta;
-use crate::shapes::extend;
+use crate::shapes::{extend, select};
 use composite_layout::{Layout, Spec};
 use flr_base::{Ids, Reply};
-use layout_state::{add_refusal, begin, selected};
+use layout_state::{add_refusal, begin};
 
 impl Meta {
     /// Adds mirrors to the file at this place, and begins a copy to them.
@@ -61,9 +61,7 @@ impl Meta {
     {
         let mut layout = self.files.layout(place).copy()?;
         let mirrors = extend(&mut layout, spec, self.targets, self.most)?;
-        let Ok(ids) = selected(self.files.alloc(), &layout, Some(&mirrors)) else {
-            return Err(MetaStop::NoMemory);
-        };
+        let ids = select(self.files.alloc(), &layout, &mirrors)?;
         if ids.is_empty() {
             self.files.put_layout(place, layout);
             return Ok(Begun::Nothing);

@@ -1,12 +1,11 @@
-ghost use Rattle.std.specs.Prelude.{◌≡◌, ◌≢◌, ◌<◌, [], None, length};
+ghost use Rattle.std.specs.Prelude.{◌≡◌, ◌≢◌, ◌<◌, [], None, length, Err, IfErr, OnOk};
 ghost use Rattle.composite_layout.specs.LookUps.{mirror_ids};
 ghost use Rattle.layout_lease.specs.Clients.{IsClient};
 ghost use Rattle.layout_lease.specs.Leases.{holder_of, keys_of};
 ghost use Rattle.layout_state.specs.Mirroring.{excess};
-ghost use Rattle.meta_server.specs.Beginning.{merge_begins, merge_fits, merge_leases, merge_readable, with_begin};
+ghost use Rattle.meta_server.specs.Beginning.{merge_begins, merge_fits, merge_leases, with_begin};
 ghost use Rattle.meta_server.specs.Conditions.{HasGenerationRoom, HasObjectRoom, IsRoom};
 ghost use Rattle.meta_server.specs.Files.{file_at, file_named};
-ghost use Rattle.meta_server.specs.Layouts.{offline_byte};
 ghost use Rattle.meta_server.specs.Outcomes.{Meets};
 
 use crate::answers::{Begun, MetaStop};
@@ -52,6 +51,30 @@ impl Meta {
         ensures begun { let f = file_at self.old.files place in let v = file_at self.old.files other in
             Meets (merge_fits client self.old f v (excess f.layout (length (mirror_ids v.layout.components)) (length v.layout.components) self.old.most)) self.old result self.new }
     {
+        self.check_merge(client, place, other)?;
+        self.files.numbers_differ();
+        let none = Ids::new(self.files.alloc());
+        let mut maker = self.maker.copy()?;
+        let (our_layout, ours) = self.begun(place, &none, &mut maker)?;
+        let (their_layout, theirs) = self.begun(other, &none, &mut maker)?;
+        self.maker = maker;
+        let ours = self.lease_with(client, place, our_layout, ours);
+        let theirs = self.lease_with(client, other, their_layout, theirs);
+        Ok(Begun::Merge { ours, theirs })
+    }
+
+    /// Why the client can't begin now to compare the files at these two places. If it can, they have
+    /// no lease.
+    fn check_merge(&self, client: u8, place: usize, other: usize) -> Result<(), MetaStop>
+        requires place { place < length self.now.files }
+        requires other { other < length self.now.files }
+        ensures stops { let f = file_at self.now.files place in let v = file_at self.now.files other in
+            IfErr result (λ stop. Meets (merge_fits client self.now f v (excess f.layout (length (mirror_ids v.layout.components)) (length v.layout.components) self.now.most)) self.now (Err stop) self.now) }
+        ensures goes { let f = file_at self.now.files place in let v = file_at self.now.files other in
+            OnOk result (merge_fits client self.now f v (excess f.layout (length (mirror_ids v.layout.components)) (length v.layout.components) self.now.most) ≡ merge_leases client self.now f v (with_begin client [] f self.now)) }
+        ensures ours_free { OnOk result (holder_of self.now.leases (file_at self.now.files place).number ≡ None) }
+        ensures theirs_free { OnOk result (holder_of self.now.leases (file_at self.now.files other).number ≡ None) }
+    {
         let layout = self.files.layout(place);
         if let Some(error) = merge_refusal(layout, self.files.layout(other), self.most) {
             return Err(MetaStop::from(error));
@@ -62,24 +85,6 @@ impl Meta {
         if let Some(holder) = self.leases.holder(self.files.number(other)) {
             return Err(MetaStop::Refused(Reply::Busy(holder)));
         }
-        self.begin_readable(client, place, other)
-    }
-
-    /// Begins to compare the files at these two places, which have no lease.
-    fn begin_readable(&mut self, client: u8, place: usize, other: usize) -> Result<Begun, MetaStop>
-        requires place { place < length self.old.files }
-        requires other { other < length self.old.files }
-        requires two { (file_at self.old.files place).name ≢ (file_at self.old.files other).name }
-        requires client { IsClient client }
-        requires no_key { keys_of client self.old.leases.keys ≡ [] }
-        requires keys { IsRoom self.old.leases.next }
-        requires generations { HasGenerationRoom self.old }
-        requires objects { HasObjectRoom self.old }
-        requires ours_free { holder_of self.old.leases (file_at self.old.files place).number ≡ None }
-        requires theirs_free { holder_of self.old.leases (file_at self.old.files other).number ≡ None }
-        ensures begun { let f = file_at self.old.files place in let v = file_at self.old.files other in
-            Meets (merge_readable client self.old f v (offline_byte f.layout) (offline_byte v.layout)) self.old result self.new }
-    {
         let alloc = self.files.alloc();
         if let Some(byte) = offline_byte(alloc, self.files.layout(place)) {
             return Err(MetaStop::Refused(Reply::AllOffline(byte)));
@@ -93,32 +98,6 @@ impl Meta {
         if let Some(holder) = self.files.free_but(other, client) {
             return Err(MetaStop::Blocked { holder });
         }
-        self.begin_both(client, place, other)
-    }
-
-    /// Takes the leases of the files at these two places, which have none.
-    fn begin_both(&mut self, client: u8, place: usize, other: usize) -> Result<Begun, MetaStop>
-        requires place { place < length self.old.files }
-        requires other { other < length self.old.files }
-        requires two { (file_at self.old.files place).name ≢ (file_at self.old.files other).name }
-        requires client { IsClient client }
-        requires no_key { keys_of client self.old.leases.keys ≡ [] }
-        requires keys { IsRoom self.old.leases.next }
-        requires generations { HasGenerationRoom self.old }
-        requires objects { HasObjectRoom self.old }
-        requires ours_free { holder_of self.old.leases (file_at self.old.files place).number ≡ None }
-        requires theirs_free { holder_of self.old.leases (file_at self.old.files other).number ≡ None }
-        ensures begun { let f = file_at self.old.files place in let v = file_at self.old.files other in
-            Meets (merge_leases client self.old f v (with_begin client [] f self.old)) self.old result self.new }
-    {
-        self.files.numbers_differ();
-        let none = Ids::new(self.files.alloc());
-        let mut maker = self.maker.copy()?;
-        let (our_layout, ours) = self.begun(place, &none, &mut maker)?;
-        let (their_layout, theirs) = self.begun(other, &none, &mut maker)?;
-        self.maker = maker;
-        let ours = self.lease_with(client, place, our_layout, ours);
-        let theirs = self.lease_with(client, other, their_layout, theirs);
-        Ok(Begun::Merge { ours, theirs })
+        Ok(())
     }
 }

@@ -1,9 +1,9 @@
--- Both leases are taken.
+-- Both leases are taken, and each step before that left the server as it was.
 use Rattle.std.proofs.Common.{◌≡◌, ◌<◌, ℕ, List, [], None, length, slice_index, ap, sym, subst, ◌∙◌, arith}
 use Rattle.layout_lease.specs.Leases.{holder_of, key_for, keys_of, taken}
 use Rattle.meta_server.specs.Files.{File, MetaView, changed, file_at, with_layout}
 use Rattle.meta_server.proofs.Both.{both_leased}
-use Rattle.meta_server.proofs.meta.Meta.begin_both.Goals as goal
+use Rattle.meta_server.proofs.meta.Meta.begin_merge.Goals as goal
 
 pub begun-requires-2-clause-numbers : goal.begun-requires-2-clause-numbers
 begun-requires-2-clause-numbers c =
@@ -23,7 +23,7 @@ lease_with-theirs-requires-clause-free c =
     let two : (file_at c.self.inside.files c.args.place).name ≡ (file_at c.self.inside.files c.args.other).name → ⊥ = subst (λ (m : MetaView). (file_at m.files c.args.place).name ≡ (file_at m.files c.args.other).name → ⊥) (sym c.self.view_is) c.requires.two in
     let apart : (file_at c.self.inside.files c.args.other).number ≡ (file_at c.self.inside.files c.args.place).number → ⊥ =
     λ e. two (ap (λ i. (file_at c.self.inside.files i).name) (sym (c.numbers_differ.ensures c.args.other c.args.place other place e))) in
-    let free : holder_of c.self.inside.leases (file_at c.self.inside.files c.args.other).number ≡ None = ap (λ (m : MetaView). holder_of m.leases (file_at m.files c.args.other).number) c.self.view_is ∙ c.requires.theirs_free in
+    let free : holder_of c.self.inside.leases (file_at c.self.inside.files c.args.other).number ≡ None = ap (λ (m : MetaView). holder_of m.leases (file_at m.files c.args.other).number) c.self.view_is ∙ c.in_ok-check_merge.ensures.theirs_free in
     subst (λ (x : File). holder_of c.lease_with-ours.new.self.leases x.number ≡ None) (sym (c.lease_with-ours.ensures.others c.args.other apart)) (c.lease_with-ours.ensures.free (file_at c.self.inside.files c.args.other).number apart free)
 
 pub returns : goal.returns
@@ -42,7 +42,7 @@ returns c =
     subst (λ (s : MetaView). c.lease_with-ours.new.self ≡ record s { nexts = c.begun-2.new.maker; files = changed (file_at s.files c.args.place).number (with_layout c.in_ok-our_layout.our_layout) s.files; leases = taken c.args.client (file_at s.files c.args.place).number s.leases }) c.self.view_is c.lease_with-ours.ensures.leased in
     let there : file_at c.lease_with-ours.new.self.files c.args.other ≡ v = c.lease_with-ours.ensures.others c.args.other apart ∙ ap (λ (s : MetaView). file_at s.files c.args.other) c.self.view_is in
     record {
-      begun = both_leased c.args.client m c.lease_with-ours.new.self c.lease_with-theirs.new.self f v (file_at c.lease_with-ours.new.self.files c.args.other) c.lease_with-ours.result c.lease_with-theirs.result (record {
+      begun = c.in_ok-check_merge.ensures.goes ∙ both_leased c.args.client m c.lease_with-ours.new.self c.lease_with-theirs.new.self f v (file_at c.lease_with-ours.new.self.files c.args.other) c.lease_with-ours.result c.lease_with-theirs.result (record {
         none = c.new-none.result;
         n0 = c.in_ok-maker.maker;
         n1 = c.begun.new.maker;
