@@ -1,0 +1,5 @@
+pub mod CopyLaws
+pub mod FileLaws
+pub mod LeftLaws
+pub mod ToldLaws
+pub mod ToldRun
