@@ -1,0 +1,10 @@
+pub mod Writable
+pub mod Cuttable
+pub mod TailLocks
+pub mod LeftLaws
+pub mod AttemptLaws
+pub mod AttemptRuns
+pub mod WriteRunLaws
+pub mod CutRunLaws
+pub mod Called
+pub mod DeedLaws

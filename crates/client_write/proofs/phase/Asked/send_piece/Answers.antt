@@ -1,0 +1,6 @@
+use Rattle.client_write.proofs.Called.{put_back}
+use Rattle.client_write.proofs.phase.Asked.send_piece.Goals as goal
+
+pub returns-in-Err-NoMemory-clause-unchanged : goal.returns-in-Err-NoMemory-clause-unchanged
+returns-in-Err-NoMemory-clause-unchanged c =
+    put_back c.args.targets.now c.object_of-object.result.target _ c.write.new.self c.at_mut-target.ensures.same (rw c.in-Err-NoMemory.field-0-is at c.in-Err-NoMemory.ensures.after)

@@ -1,0 +1,9 @@
+use Rattle.std.proofs.Common.{◌≡◌, ◌++◌, map, take, drop}
+use Rattle.client_write.specs.Truncates.{first_blocker, tail_lock}
+use Rattle.client_write.proofs.truncate.lock_each.Given as goal
+
+abbrev pub invariant-loop-tail : goal.invariant-loop-tail
+invariant-loop-tail l = record {
+  granted : l.locks ≡ l.initial.locks ++ map (tail_lock l.client) (take l.tail-index l.tails);
+  first : first_blocker (map (tail_lock l.client) l.tails) l.initial.locks ≡ first_blocker (map (tail_lock l.client) (drop l.tail-index l.tails)) l.initial.locks;
+}

@@ -1,0 +1,12 @@
+pub mod Views
+pub mod Calls
+pub mod Refusals
+pub mod Parts
+pub mod Writes
+pub mod Fitting
+pub mod Truncates
+pub mod CutFitting
+pub mod Left
+pub mod Attempts
+pub mod WriteRuns
+pub mod CutRuns
