@@ -1,5 +1,5 @@
 -- Mirrors that were added are mirrors of the layout.
-use Rattle.std.proofs.Common.{◌≡◌, ℕ, ◌+◌, ◌<◌, Bool, true, cond, not, ◌||◌, nat_eq, Option, Some, None, List, [], ◌∷◌, ◌++◌, length, find, ap, subst, refl, ◌∙◌, sym, append_assoc, arith}
+use Rattle.std.proofs.Common.{◌≡◌, ℕ, ◌+◌, Bool, true, cond, not, nat_eq, Option, Some, None, List, [], ◌∷◌, ◌++◌, length, find, ap, subst, refl, ◌∙◌, sym, append_assoc, arith}
 use Rattle.std.specs.List.{AllByRecursion, range_with_len}
 use Rattle.std.proofs.lemmas.Bool.{or_left, or_right}
 use Rattle.std.proofs.lemmas.List.Folds.{list_any-append}

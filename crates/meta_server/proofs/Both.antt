@@ -1,5 +1,5 @@
 -- Two files are compared under their leases.
-use Rattle.std.proofs.Common.{◌≡◌, ℕ, List, [], refl, sym, ap, ◌∙◌}
+use Rattle.std.proofs.Common.{◌≡◌, ℕ, List, [], sym, ◌∙◌}
 use Rattle.composite_layout.specs.Layouts.{Composite}
 use Rattle.layout_lease.specs.Leases.{key_for, taken}
 use Rattle.layout_state.specs.Marking.{is_named}

@@ -1,8 +1,8 @@
 -- What comes of calls, from what their steps left.
-use Rattle.std.proofs.Common.{◌≡◌, ℕ, ◌+◌, ◌<◌, ◌≤◌, Bool, true, false, cond, ◌&&◌, ◌||◌, true≢false, zero, suc, Option, Some, None, List, [], ◌∷◌, ◌++◌, length, find, slice_get, refl, sym, ap, subst, ◌∙◌, arith}
+use Rattle.std.proofs.Common.{◌≡◌, ℕ, ◌<◌, ◌≤◌, Bool, true, false, cond, ◌&&◌, ◌||◌, true≢false, zero, suc, Some, None, List, [], ◌∷◌, ◌++◌, length, find, refl, sym, ap, subst, ◌∙◌, arith}
 use Rattle.std.specs.List.{list_any}
 use Rattle.composite_layout.specs.declared.component.Component.{Component}
-use Rattle.composite_layout.specs.Layouts.{Composite, eof}
+use Rattle.composite_layout.specs.Layouts.{Composite}
 use Rattle.layout_lease.specs.Leases.{KeyView, TableView, broken_by}
 use Rattle.layout_lease.specs.Shares.{lowest_but}
 use Rattle.mirror_select.specs.Candidates.{chosen, has_byte, is_candidate, is_least, is_usable}
@@ -10,7 +10,7 @@ use Rattle.mirror_select.proofs.Sound.{has_from, has_parts}
 use Rattle.meta_server.specs.Files.{File, MetaView, AreBelow, changed, file_at, file_of, new_file, with_break, with_file, with_layout, without_file}
 use Rattle.meta_server.specs.Layouts.{lessened, merged, merged_ids, split_off}
 use Rattle.meta_server.specs.Naming.{removes_alone}
-use Rattle.meta_server.specs.Outcomes.{Outcome, Gives, Ends}
+use Rattle.meta_server.specs.Outcomes.{Gives, Ends}
 use Rattle.meta_server.specs.Ending.{both_given, merge_ends_alone, merge_ends_files, with_merge}
 use Rattle.meta_server.proofs.Leasing.{at_push, changed_push}
 

@@ -1,9 +1,8 @@
 -- A file that goes, and files that are told apart.
-use Rattle.std.proofs.Common.{◌≡◌, ℕ, zero, suc, ◌+◌, ◌<◌, Bool, true, false, cond, not, nat_eq, Option, Some, None, IfSome, List, [], ◌∷◌, ◌++◌, length, map, filter, find, remove, refl, sym, ap, subst, ◌∙◌, arith}
+use Rattle.std.proofs.Common.{◌≡◌, ℕ, zero, suc, ◌<◌, Bool, true, false, cond, not, nat_eq, Option, Some, None, IfSome, List, [], ◌∷◌, length, filter, remove, refl, sym, ap, subst, ◌∙◌, arith}
 use Rattle.std.specs.List.{AllByRecursion}
 use Rattle.std.specs.Option.{option_map}
 use Rattle.std.specs.Cmp.Lexicographic.{same_text}
-use Rattle.std.proofs.lemmas.Bool.Decides.{nat_tests}
 use Rattle.meta_server.specs.declared.files.Kept.{Kept}
 use Rattle.meta_server.specs.Files.{File, AreAscending, AreBelow, changed, file_at, file_named, same_name, without_file}
 use Rattle.meta_server.specs.Listing.{file_of_entry, files_of}

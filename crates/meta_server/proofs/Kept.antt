@@ -1,5 +1,5 @@
 -- What the code keeps true of the metadata server, after each change.
-use Rattle.std.proofs.Common.{◌≡◌, ℕ, ◌+◌, List, [], ◌∷◌, None, length, refl, ap, sym, ◌∙◌, arith}
+use Rattle.std.proofs.Common.{◌≡◌, ℕ, List, [], ◌∷◌, None, length, refl, ap, sym, ◌∙◌}
 use Rattle.std.proofs.Common.{length-set}
 use Rattle.flr_base.specs.declared.reply.Range.{Range}
 use Rattle.composite_layout.specs.Layouts.{Composite}

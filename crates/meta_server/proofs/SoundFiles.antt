@@ -1,10 +1,10 @@
 -- A change of one file leaves the files sound.
-use Rattle.std.proofs.Common.{◌≡◌, ℕ, ◌+◌, ◌<◌, ◌≤◌, Bool, true, false, cond, nat_eq, Option, Some, None, List, [], ◌∷◌, ◌++◌, length, map, refl, sym, ap, subst, ◌∙◌, arith, true≢false}
+use Rattle.std.proofs.Common.{◌≡◌, ℕ, ◌<◌, ◌≤◌, Bool, true, false, cond, nat_eq, Option, Some, None, List, [], ◌∷◌, refl, sym, ap, subst, ◌∙◌, arith, true≢false}
 use Rattle.std.specs.List.{AllByRecursion}
 use Rattle.std.specs.Option.{option_map}
 use Rattle.std.proofs.lemmas.Bool.Decides.{nat_tests}
 use Rattle.composite_layout.specs.declared.component.State.TheVariants as states
-use Rattle.meta_server.specs.Files.{File, AreAscending, AreBelow, changed, file_of}
+use Rattle.meta_server.specs.Files.{File, AreAscending, changed, file_of}
 use Rattle.meta_server.specs.Sound.{AreNamedApart, AreSound, IsCopied, IsFileChange, IsSoundFile}
 use Rattle.meta_server.proofs.Placing.{ascending_changed, below_changed, length-changed, nat_eq_greater}
 

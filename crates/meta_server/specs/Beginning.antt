@@ -1,6 +1,5 @@
 -- How a copy begins: a resync, mirrors to come by a copy, and a file to be taken in.
 use Rattle.std.specs.Prelude.{ℕ, ◌==◌, Bool, true, false, [], Option, Some, None, List, length}
-use Rattle.flr_base.specs.declared.reply.Reply.{Reply}
 use Rattle.flr_base.specs.declared.reply.Reply.TheVariants as reply
 use Rattle.composite_layout.specs.declared.spec.MirrorSpec.{MirrorSpec}
 use Rattle.composite_layout.specs.Layouts.{Composite}

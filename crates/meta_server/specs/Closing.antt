@@ -2,7 +2,7 @@
 use Rattle.std.specs.Prelude.{ℕ, max, Bool, false, Option, Some, None, is_some, nat_eq, slice_index, if◌then◌else◌}
 use Rattle.std.specs.Option.{option_map, option_map_or}
 use Rattle.layout_lease.specs.declared.shared.Share.{Share}
-use Rattle.layout_lease.specs.Shares.{freed, is_held}
+use Rattle.layout_lease.specs.Shares.{is_held}
 use Rattle.meta_server.specs.Files.{File, MetaView, file_of, with_change, with_freed}
 
 -- whether the file with this number is there

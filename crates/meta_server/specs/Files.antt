@@ -1,5 +1,5 @@
 -- What the metadata server keeps, and the single things that happen to it.
-use Rattle.std.specs.Prelude.{ℕ, ◌+◌, ◌<◌, Bool, nat_eq, nat_le, Option, Some, None, List, [], ◌∷◌, ◌++◌, length, map, filter, find, not, replicate, slice_set, if◌then◌else◌}
+use Rattle.std.specs.Prelude.{ℕ, ◌+◌, ◌<◌, Bool, nat_eq, nat_le, Option, List, [], ◌∷◌, ◌++◌, length, map, filter, find, not, replicate, slice_set, if◌then◌else◌}
 use Rattle.std.specs.List.{slice_index_or, AllByRecursion}
 use Rattle.std.specs.Cmp.Lexicographic.{pointwise}
 use Rattle.composite_layout.specs.declared.component.State.TheVariants as states

@@ -3,12 +3,11 @@ use Rattle.std.specs.Prelude.{ℕ, Bool, true, false, nat_lt, Option, Some, None
 use Rattle.flr_base.specs.declared.reply.Range.{Range}
 use Rattle.flr_base.specs.declared.reply.Reply.TheVariants as reply
 use Rattle.composite_layout.specs.Choices.{is_ready}
-use Rattle.composite_layout.specs.Layouts.{Composite, eof}
-use Rattle.layout_lease.specs.Leases.{broken_by}
+use Rattle.composite_layout.specs.Layouts.{eof}
 use Rattle.layout_lease.specs.Shares.{cookie_for, lowest_but}
 use Rattle.layout_state.specs.Choosing.{is_over, primary_of}
 use Rattle.meta_server.specs.declared.answers.Opened.{Opened}
-use Rattle.meta_server.specs.Files.{File, MetaView, changed, file_named, with_break, with_change, with_layout, with_share}
+use Rattle.meta_server.specs.Files.{File, MetaView, file_named, with_break, with_change, with_layout, with_share}
 use Rattle.meta_server.specs.Layouts.{intended, nexts_over}
 use Rattle.meta_server.specs.Outcomes.{Outcome, Gives, Refuses, Waits}
 

@@ -1,5 +1,5 @@
 -- Each byte so far has a component that answers it.
-use Rattle.std.proofs.Common.{◌≡◌, ◌≤◌, ◌<◌, ◌-◌, ℕ, [], refl, sym, ◌∙◌, arith}
+use Rattle.std.proofs.Common.{◌<◌, ◌-◌, ℕ, [], refl, sym, ◌∙◌, arith}
 use Rattle.composite_layout.specs.Layouts.{eof}
 use Rattle.mirror_select.proofs.Grouping.{without_here, without_none, without_step}
 use Rattle.meta_server.proofs.offline.offline_byte.Goals as goal

@@ -1,5 +1,5 @@
 -- The layout is what its fields say, and the new ids fit.
-use Rattle.std.proofs.Common.{◌≡◌, ◌+◌, ◌≤◌, ℕ, zero, suc, List, subst, sym, length, arith}
+use Rattle.std.proofs.Common.{◌+◌, ◌≤◌, ℕ, zero, suc, List, subst, sym, length, arith}
 use Rattle.composite_layout.specs.Layouts.{IsValid}
 use Rattle.std.specs.List.{AllByRecursion, range_with_len}
 use Rattle.meta_server.proofs.Added.{none_absent}

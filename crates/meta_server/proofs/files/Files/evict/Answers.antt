@@ -1,5 +1,5 @@
 -- The cookies of the client are gone from all files.
-use Rattle.std.proofs.Common.{◌≡◌, refl, ap, sym, subst, ◌∙◌, List, map, length}
+use Rattle.std.proofs.Common.{◌≡◌, refl, ap, sym, subst, ◌∙◌, List, map}
 use Rattle.meta_server.specs.Files.{File, AreAscending, AreBelow, with_evicted}
 use Rattle.meta_server.specs.Listing.{files_of}
 use Rattle.meta_server.proofs.Placing.{below_mapped, ascending_mapped, evicted_files}

@@ -1,5 +1,5 @@
 -- The copy is done at its place.
-use Rattle.std.proofs.Common.{◌≡◌, ◌<◌, ◌+◌, List, None, refl, ap, sym, subst, ◌∙◌}
+use Rattle.std.proofs.Common.{◌<◌, ◌+◌, refl, ap, sym, subst, ◌∙◌}
 use Rattle.meta_server.specs.declared.files.Kept.{Kept}
 use Rattle.meta_server.specs.Files.{File, file_at, with_layout}
 use Rattle.meta_server.specs.Listing.{file_of_entry}

@@ -1,7 +1,6 @@
 -- The size rises at its place.
-use Rattle.std.proofs.Common.{◌≡◌, List, refl, ap, sym, subst}
+use Rattle.std.proofs.Common.{refl, ap, sym}
 use Rattle.meta_server.specs.declared.files.Kept.{Kept}
-use Rattle.meta_server.specs.Files.{File, file_at}
 use Rattle.meta_server.specs.Listing.{file_of_entry}
 use Rattle.meta_server.specs.Closing.{grown}
 use Rattle.meta_server.proofs.Placing.{written}

@@ -1,6 +1,6 @@
 -- The file with the key that is the name.
-use Rattle.std.proofs.Common.{◌≡◌, List, ap, ◌∙◌, option_map}
-use Rattle.meta_server.specs.Files.{File, file_at, same_name}
+use Rattle.std.proofs.Common.{ap, ◌∙◌, option_map}
+use Rattle.meta_server.specs.Files.{file_at, same_name}
 use Rattle.meta_server.proofs.Going.{name_placed}
 use Rattle.meta_server.proofs.Placing.{named_at}
 use Rattle.meta_server.proofs.files.Files.named.Goals as goal

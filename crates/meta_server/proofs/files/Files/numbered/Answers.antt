@@ -1,6 +1,6 @@
 -- The file with the number.
-use Rattle.std.proofs.Common.{◌≡◌, ℕ, List, ap, ◌∙◌, nat_eq, option_map}
-use Rattle.meta_server.specs.Files.{File, file_at}
+use Rattle.std.proofs.Common.{ap, ◌∙◌, nat_eq, option_map}
+use Rattle.meta_server.specs.Files.{file_at}
 use Rattle.meta_server.proofs.Placing.{number_placed, numbered_at}
 use Rattle.meta_server.proofs.files.Files.numbered.Goals as goal
 

@@ -1,5 +1,5 @@
 -- Numbers ascend.
-use Rattle.std.proofs.Common.{◌≡◌, List, subst}
+use Rattle.std.proofs.Common.{subst}
 use Rattle.meta_server.specs.Files.{AreAscending}
 use Rattle.meta_server.proofs.Going.{one_place}
 use Rattle.meta_server.proofs.files.Files.numbers_differ.Goals as goal

@@ -1,6 +1,6 @@
 -- The new file comes last.
-use Rattle.std.proofs.Common.{◌≡◌, ◌++◌, ◌∷◌, [], ℕ, List, sym, subst}
-use Rattle.meta_server.specs.Files.{File, AreBelow}
+use Rattle.std.proofs.Common.{sym, subst}
+use Rattle.meta_server.specs.Files.{AreBelow}
 use Rattle.meta_server.specs.Listing.{file_of_entry}
 use Rattle.meta_server.proofs.Placing.{below_push, pushed}
 use Rattle.meta_server.proofs.files.Files.push.Goals as goal

@@ -1,5 +1,5 @@
 -- The layout changes at its place.
-use Rattle.std.proofs.Common.{◌≡◌, List, refl, ap, sym, subst, length, ◌∙◌}
+use Rattle.std.proofs.Common.{List, refl, ap, sym, length, ◌∙◌}
 use Rattle.meta_server.specs.declared.files.Kept.{Kept}
 use Rattle.meta_server.specs.Files.{File, file_at}
 use Rattle.meta_server.specs.Listing.{file_of_entry}

@@ -1,5 +1,5 @@
 -- The flags change at their place.
-use Rattle.std.proofs.Common.{◌≡◌, ◌<◌, ◌+◌, List, None, refl, ap, sym, subst, ◌∙◌}
+use Rattle.std.proofs.Common.{◌≡◌, ◌<◌, ◌+◌, None, refl, ap, sym, subst, ◌∙◌}
 use Rattle.meta_server.specs.declared.files.Kept.{Kept}
 use Rattle.meta_server.specs.Files.{File, file_at, with_layout}
 use Rattle.meta_server.specs.Listing.{file_of_entry}

@@ -1,7 +1,7 @@
 -- The client shares the lock of the file at its place.
-use Rattle.std.proofs.Common.{◌≡◌, List, refl, ap, sym, subst}
+use Rattle.std.proofs.Common.{◌≡◌, refl, ap, sym, subst}
 use Rattle.meta_server.specs.declared.files.Kept.{Kept}
-use Rattle.meta_server.specs.Files.{File, file_at}
+use Rattle.meta_server.specs.Files.{File}
 use Rattle.meta_server.specs.Listing.{file_of_entry}
 use Rattle.meta_server.specs.Files.{with_share}
 use Rattle.layout_lease.specs.Shares.{cookie_for, cookies_of}

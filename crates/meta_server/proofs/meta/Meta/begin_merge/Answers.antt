@@ -1,5 +1,5 @@
 -- Both leases are taken, and each step before that left the server as it was.
-use Rattle.std.proofs.Common.{◌≡◌, ◌<◌, ℕ, List, [], None, length, slice_index, ap, sym, subst, ◌∙◌, arith}
+use Rattle.std.proofs.Common.{◌≡◌, ◌<◌, ℕ, List, None, length, slice_index, ap, sym, subst, ◌∙◌, arith}
 use Rattle.layout_lease.specs.Leases.{holder_of, key_for, keys_of, taken}
 use Rattle.meta_server.specs.Files.{File, MetaView, changed, file_at, with_layout}
 use Rattle.meta_server.proofs.Both.{both_leased}

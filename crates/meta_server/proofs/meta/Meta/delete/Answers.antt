@@ -1,6 +1,5 @@
 -- The mirror is gone, and the numbers of files stay.
-use Rattle.std.proofs.Common.{◌≡◌, List, None, ap, sym, subst, ◌∙◌}
-use Rattle.composite_layout.specs.Layouts.{Composite}
+use Rattle.std.proofs.Common.{◌≡◌, None, ap, sym, subst, ◌∙◌}
 use Rattle.layout_lease.specs.Leases.{broken_by}
 use Rattle.layout_lease.specs.Shares.{lowest_but}
 use Rattle.meta_server.specs.Files.{MetaView, file_at}

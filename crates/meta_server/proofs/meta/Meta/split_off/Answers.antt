@@ -1,5 +1,5 @@
 -- The mirror is gone, and the new file comes last.
-use Rattle.std.proofs.Common.{◌≡◌, ◌<◌, List, Some, None, Option, IfSome, length, ap, sym, subst, ◌∙◌}
+use Rattle.std.proofs.Common.{◌≡◌, ◌<◌, Option, IfSome, length, ap, sym, subst, ◌∙◌}
 use Rattle.composite_layout.specs.Layouts.{Composite}
 use Rattle.layout_lease.specs.Leases.{broken_by}
 use Rattle.meta_server.specs.Files.{MetaView, file_at, with_break, with_file}

@@ -1,5 +1,5 @@
 -- The mirrors came, and the other file is gone.
-use Rattle.std.proofs.Common.{◌≡◌, List, ap, subst, ◌∙◌}
+use Rattle.std.proofs.Common.{◌≡◌, ap, subst, ◌∙◌}
 use Rattle.composite_layout.specs.Layouts.{Composite}
 use Rattle.meta_server.specs.Files.{File, MetaView, changed, file_at, with_layout, without_file}
 use Rattle.meta_server.specs.Layouts.{merged}

@@ -1,0 +1,9 @@
+pub mod Got
+pub mod Views
+pub mod Pieces
+pub mod Reads
+pub mod Fitting
+pub mod Left
+pub mod Told
+pub mod Ends
+pub mod Faults

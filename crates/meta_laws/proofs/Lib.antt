@@ -1,0 +1,16 @@
+pub mod Finding
+pub mod Covering
+pub mod Changing
+pub mod Cases
+pub mod Whole
+pub mod Opens
+pub mod Copies
+pub mod Ends
+pub mod Names
+pub mod Runs
+pub mod Explaining
+pub mod Explained
+pub mod Falling
+pub mod Once
+pub mod Single
+pub mod Leaving

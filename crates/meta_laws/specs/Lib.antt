@@ -1,0 +1,4 @@
+pub mod Calls
+pub mod Layouts
+pub mod Numbers
+pub mod Laws
