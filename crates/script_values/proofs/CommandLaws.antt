@@ -94,7 +94,7 @@ two_digits a b high low byte h l e =
     let last : byte % 16 ≡ low = omega arith in
     (omega arith, rw (first, last, h.1, l.1) refl)
 
-hex_takes : (word : List ℕ) (byte : ℕ) → hex_byte word ≡ Some byte → (byte < 256) × (word ≡ hex byte)
+pub hex_takes : (word : List ℕ) (byte : ℕ) → hex_byte word ≡ Some byte → (byte < 256) × (word ≡ hex byte)
 hex_takes [] byte e = absurd cc
 hex_takes (a ∷ []) byte e = absurd cc
 hex_takes (a ∷ b ∷ []) byte e =
