@@ -1,5 +1,4 @@
 pub mod Lists
 pub mod Printable
 pub mod Played
-pub mod Told
 pub mod Known

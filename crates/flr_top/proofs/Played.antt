@@ -1,10 +1,10 @@
 -- What a schedule of one client comes to.
-use Rattle.std.proofs.Common.{◌≡◌, ℕ, ◌+◌, ◌<◌, List, [], ◌∷◌, length, take, replicate, sym, ap, subst, ◌∙◌, arith, inl, inr}
+use Rattle.std.proofs.Common.{◌≡◌, ℕ, ◌+◌, ◌<◌, List, [], ◌∷◌, take, replicate, sym, ap, subst, ◌∙◌, arith}
 use Rattle.std.specs.Prelude.{Some, None, slice_get}
 use Rattle.std.proofs.lemmas.List.{append-nil, take-replicate}
 use Rattle.first_path_script.specs.declared.script.ClientRun.{ClientRun}
 use Rattle.first_path_script.specs.Scripts.{ScriptView}
-use Rattle.flr_world.specs.States.{State, Finished, Unknown, next, next_by, next_from, client_at, new_client, after, start, unfinished_of, IsRun}
+use Rattle.flr_world.specs.States.{State, Finished, next, after, start, unfinished_of, IsRun}
 use Rattle.flr_world.specs.Histories.{IsComplete, IsLinear}
 use Rattle.flr_world.specs.Takes.{EachAnswered}
 use Rattle.flr_world.proofs.Theorem.{linear_run, takes_run}

@@ -2,3 +2,4 @@ pub mod Reports
 pub mod Replays
 pub mod Statuses
 pub mod Outcomes
+pub mod Words

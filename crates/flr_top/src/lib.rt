@@ -3,6 +3,9 @@
 
 mod main_call;
 mod replay;
+mod replay_call;
 mod report;
+mod words;
 
-pub use main_call::{flr_main, replay_main};
+pub use main_call::flr_main;
+pub use replay_call::replay_main;

@@ -4,6 +4,7 @@ pub mod Grammar
 pub mod HeadLines
 pub mod Keeping
 pub mod Leads
+pub mod Refusals
 pub mod Replays
 pub mod Schedules
 pub mod Slots

@@ -10,6 +10,7 @@ mod head_lines;
 mod lead;
 mod lines;
 mod read;
+mod refusal;
 mod replay;
 mod round_trip;
 mod runs;
@@ -20,6 +21,7 @@ mod step;
 
 pub use error::ScriptError;
 pub use read::read_script;
+pub use refusal::print_refusal;
 pub use replay::read_replay;
-pub use round_trip::through_text;
+pub use round_trip::{printed_script, through_text};
 pub use script_values::What;

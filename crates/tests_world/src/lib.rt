@@ -4,6 +4,8 @@
 #[cfg(test)]
 mod ends;
 #[cfg(test)]
+mod migrations;
+#[cfg(test)]
 mod replays;
 #[cfg(test)]
 mod scripts;

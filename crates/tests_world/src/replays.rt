@@ -33,9 +33,10 @@ fn scripts_are_replayed(rt: HostRuntime) -> Result<(), Fail> {
 #[test]
 fn words_are_looked_at(rt: HostRuntime) -> Result<(), Fail> {
     let alloc = rt.alloc();
-    let usage: &[u8] = b"flr: words: replay\n";
-    let rows: [(&[&str], u8, &[u8]); 4] = [
+    let usage: &[u8] = b"flr: words: replay | migrate\n";
+    let rows: [(&[&str], u8, &[u8]); 5] = [
         (&["replay"], 0, FIRST_REPORT),
+        (&["migrate"], 3, b"flr: script: line 7: misplaced\n"),
         (&["run"], 2, usage),
         (&["replay", "x"], 2, usage),
         (&[], 2, usage),

@@ -143,13 +143,9 @@ impl<W: Stepped> TurnCell<W> {
         ensures same { IfErr result (λ out. out.cell ≡ self) }
         ensures busy { IfErr result (λ out. FoundBusy seat out.seat) }
     {
-        let TurnSeat { mut seat } = seat;
-        match self.try_take(&mut seat) {
-            Some((_, value)) => Ok(value),
-            None => Err(TurnOut {
-                cell: self,
-                seat: TurnSeat { seat },
-            }),
+        match self.try_turn(seat) {
+            Ok(turn) => Ok(turn.into_value()),
+            Err(seat) => Err(TurnOut { cell: self, seat }),
         }
     }
 }

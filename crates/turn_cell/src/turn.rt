@@ -67,6 +67,22 @@ impl<'a, W: Stepped> Turn<'a, W> {
         answer
     }
 
+    /// The value, which the cell doesn't get back.
+    pub(crate) fn into_value(self) -> W
+        ensures origin { W.origin result ≡ self.entry.origin }
+        ensures schedule { W.schedule result ≡ self.entry.schedule }
+    {
+        let Turn {
+            cell: _,
+            seat: _seat,
+            value,
+            word: _,
+            made: _,
+            asked: _,
+        } = self;
+        value
+    }
+
     /// Gives the value back. The seat has seen the value's schedule then. After a step it has one
     /// place more, the last of that, whose client is the one that was asked for.
     pub fn finish(self) -> TurnSeat<W>

@@ -1,13 +1,11 @@
 use Rattle.std.proofs.Common.{ℕ, List, ◌<◌, length, refl, sym, subst, ◌∙◌}
 use Rattle.script_text.specs.Grammar.{Spells}
-use Rattle.script_text.proofs.Printed.{printed_spells}
 use Rattle.script_text.proofs.round_trip.through_text.Goals as goal
 
 pub returns-clause-same : goal.returns-clause-same
 returns-clause-same c = λ short.
     c.read_script.ensures.again c.args.script.now
-    (subst (λ (text : List ℕ). Spells text c.args.script.now) (sym (c.as_slice.ensures.same ∙ c.in_ok-text.ensures.form))
-    (printed_spells c.printed_commands.ensures.words c.printed_commands.ensures.alone c.printed_spells.ensures.again c.args.script.now c.targets-targets.ensures.limits short))
+    (subst (λ (text : List ℕ). Spells text c.args.script.now) (sym (c.as_slice.ensures.same ∙ c.in_ok-text.ensures.form)) (c.printed_script.ensures.spelled short))
 
 pub returns-clause-long : goal.returns-clause-long
 returns-clause-long c = λ long.
