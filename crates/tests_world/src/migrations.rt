@@ -36,6 +36,13 @@ fn wide(alloc: Global) -> Result<Vec<u8>, AllocError> {
     Ok(text)
 }
 
+/// One byte more than a script may have.
+fn long(alloc: Global) -> Result<Vec<u8>, AllocError> {
+    let mut text = Vec::new(alloc);
+    text.resize(1048577, b'\n')?;
+    Ok(text)
+}
+
 /// What a migration ends with and writes, whose source and sink fail the listed calls.
 fn migrated(
     alloc: Global,
@@ -55,7 +62,7 @@ fn migrated(
 fn scripts_migrate(rt: HostRuntime) -> Result<(), Fail> {
     let alloc = rt.alloc();
     let wide = wide(alloc)?;
-    let long = [b'\n'; 1048577];
+    let long = long(alloc)?;
     let rows: [(&[u8], &[u32], &[u32], u8, &[u8]); 11] = [
         (OLD, &[], &[], 0, NEW),
         (NEW, &[], &[], 0, NEW),
@@ -75,7 +82,7 @@ fn scripts_migrate(rt: HostRuntime) -> Result<(), Fail> {
             3,
             b"flr: script: too many fails\n",
         ),
-        (&long, &[], &[], 3, b"flr: script: too long\n"),
+        (long.as_slice(), &[], &[], 3, b"flr: script: too long\n"),
         (wide.as_slice(), &[], &[], 3, b"flr: script: too long\n"),
         (OLD, &[2], &[], 4, b"flr: read fault\n"),
         (OLD, &[], &[1], 5, b""),
