@@ -1,2 +1,3 @@
 mod FileLaws
 mod HistoryLaws
+mod ByteLaws

@@ -1,3 +1,12 @@
 pub mod Files
 pub mod Effects
 pub mod Histories
+pub mod Sending
+pub mod Runs
+pub mod Honesty
+pub mod Takes
+pub mod Causes
+pub mod Copies
+pub mod Blocking
+pub mod Completeness
+pub mod Meanings

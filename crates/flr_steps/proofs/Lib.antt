@@ -1,0 +1,3 @@
+pub mod Runs
+pub mod Inversion
+pub mod Induction

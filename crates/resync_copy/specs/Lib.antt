@@ -1,0 +1,13 @@
+pub mod Parts
+pub mod Views
+pub mod Comparing
+pub mod Chunks
+pub mod Calls
+pub mod Copies
+pub mod Merges
+pub mod Steps
+pub mod Sizes
+pub mod MergeFitting
+pub mod Fitting
+pub mod TargetCalls
+pub mod Laws
