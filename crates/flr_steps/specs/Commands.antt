@@ -15,7 +15,8 @@ use Rattle.call_steps.specs.Steps.{Outcome, Answered, Blocked, widen}
 use Rattle.client_read.specs.Reads.{new_read, read_step}
 use Rattle.client_write.specs.Writes.{new_write, write_step}
 use Rattle.client_write.specs.Truncates.{new_truncate, truncate_step}
-use Rattle.resync_copy.specs.Copies.{new_copy, copy_step}
+use Rattle.resync_copy.specs.Copies.{new_copy}
+use Rattle.resync_copy.specs.Steps.{copy_step}
 use Rattle.mirror_verify.specs.Verifies.{new_verify, verify_step}
 use Rattle.mirror_admin.specs.OneStep.{one_step}
 use Rattle.mirror_admin.specs.Rotting.{is_kept, rot_reply, rotted}
