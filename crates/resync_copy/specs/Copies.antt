@@ -70,7 +70,7 @@ resets_from x place = resets_at x (next_reset x place)
 abbrev pub fences_from : CopyingView → ℕ → CopyStage
 fences_from x next = if nat_lt next (length (fences_of x)) then stage.Fence x next else resets_from x 0
 
--- no call: the one for which a destination would be left that nobody can answer and no take of which failed. There is none, since all bytes of a destination have a source
+-- no call: the one for which a destination would be left that nobody can answer and no take of which failed. That this doesn't come up is no law of this crate
 abbrev pub no_call : FailedCall
 no_call = record { target = 0; call = 0 }
 
