@@ -1,0 +1,4 @@
+pub mod Did
+pub mod Whole
+pub mod Causes
+pub mod Merged
