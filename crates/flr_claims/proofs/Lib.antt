@@ -1,3 +1,9 @@
 mod FileLaws
 mod HistoryLaws
 mod ByteLaws
+mod NameLaws
+mod CopyLaws
+mod MetaWaits
+mod CallWaits
+mod BlockingLaws
+mod RefusalLaws

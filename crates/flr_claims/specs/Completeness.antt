@@ -37,13 +37,19 @@ IsReadWell (reply.Bytes bytes) = Unit {0}
 IsReadWell (reply.NoFile name) = Unit {0}
 IsReadWell other = ⊥
 
--- a write or a truncate has all its effect, unless its file isn't there or would be too big
+-- a write has all its effect, unless its file isn't there or would be too big
 abbrev pub IsWrittenWell : Reply → Type 0
 IsWrittenWell reply.Written = Unit {0}
-IsWrittenWell reply.Truncated = Unit {0}
 IsWrittenWell (reply.NoFile name) = Unit {0}
 IsWrittenWell reply.TooBig = Unit {0}
 IsWrittenWell other = ⊥
+
+-- and so has a truncate
+abbrev pub IsTruncatedWell : Reply → Type 0
+IsTruncatedWell reply.Truncated = Unit {0}
+IsTruncatedWell (reply.NoFile name) = Unit {0}
+IsTruncatedWell reply.TooBig = Unit {0}
+IsTruncatedWell other = ⊥
 
 -- a resync leaves nothing, unless its file or a mirror that it names isn't there, another copy has the lease, or a write broke its own
 abbrev pub IsCopiedWell : Reply → Type 0
@@ -62,7 +68,7 @@ IsLfsWell other answer = Unit {0}
 abbrev pub IsAnsweredWell : Command → Reply → Type 0
 IsAnsweredWell (command.Read name offset len) answer = IsReadWell answer
 IsAnsweredWell (command.Write name offset bytes) answer = IsWrittenWell answer
-IsAnsweredWell (command.Truncate name size) answer = IsWrittenWell answer
+IsAnsweredWell (command.Truncate name size) answer = IsTruncatedWell answer
 IsAnsweredWell (command.Lfs of) answer = IsLfsWell of answer
 IsAnsweredWell other answer = Unit {0}
 

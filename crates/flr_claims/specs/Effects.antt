@@ -23,7 +23,7 @@ most_files = 16
 
 -- the name that a split gives where it is told none
 abbrev pub default_name : List ℕ → ℕ → List ℕ
-default_name name mirror = name ++ codes ".mirror~" ++ decimal mirror
+default_name name mirror = name ++ (codes ".mirror~" ++ decimal mirror)
 
 -- ---- what a command may answer
 
@@ -37,14 +37,21 @@ abbrev pub AllowsRead : List ℕ → ℕ → ℕ → List Plain → Reply → Ty
 AllowsRead name offset len store (reply.Bytes bytes) = IsPresent store name × (bytes ≡ take len (drop offset (bytes_of store name)))
 AllowsRead name offset len store other = AllowsOf name store other
 
--- what goes past the greatest size is too big, and nothing else is
+-- a write that goes past the greatest size is too big, and no other is
 abbrev pub AllowsWrite : List ℕ → ℕ → List Plain → Reply → Type 0
 AllowsWrite name end store reply.Written = IsPresent store name × (end ≤ most_bytes)
-AllowsWrite name end store reply.Truncated = IsPresent store name × (end ≤ most_bytes)
 AllowsWrite name end store (reply.WriteFault call) = IsPresent store name × (end ≤ most_bytes)
 AllowsWrite name end store (reply.Evicted place) = IsPresent store name × (end ≤ most_bytes)
 AllowsWrite name end store reply.TooBig = IsPresent store name × (most_bytes < end)
 AllowsWrite name end store other = AllowsOf name store other
+
+-- and so it is with the size of a truncate
+abbrev pub AllowsTruncate : List ℕ → ℕ → List Plain → Reply → Type 0
+AllowsTruncate name size store reply.Truncated = IsPresent store name × (size ≤ most_bytes)
+AllowsTruncate name size store (reply.WriteFault call) = IsPresent store name × (size ≤ most_bytes)
+AllowsTruncate name size store (reply.Evicted place) = IsPresent store name × (size ≤ most_bytes)
+AllowsTruncate name size store reply.TooBig = IsPresent store name × (most_bytes < size)
+AllowsTruncate name size store other = AllowsOf name store other
 
 -- a file is made where there is none of its name, and room for one more
 abbrev pub AllowsMaking : List ℕ → List Plain → Reply → Type 0
@@ -93,7 +100,7 @@ AllowsLfs (lfs.Verify name) store answer = AllowsOf name store answer
 abbrev pub Allows : Command → List Plain → Reply → Type 0
 Allows (command.Read name offset len) store answer = AllowsRead name offset len store answer
 Allows (command.Write name offset bytes) store answer = AllowsWrite name (offset + length bytes) store answer
-Allows (command.Truncate name size) store answer = AllowsWrite name size store answer
+Allows (command.Truncate name size) store answer = AllowsTruncate name size store answer
 Allows (command.Lfs command) store answer = AllowsLfs command store answer
 Allows (command.Evict client) store answer = Unit {0}
 Allows (command.Rot object offset byte) store answer = Unit {0}

@@ -5,8 +5,13 @@ pub mod Sending
 pub mod Runs
 pub mod Honesty
 pub mod Takes
-pub mod Causes
+pub mod Asked
+pub mod Failures
 pub mod Copies
+pub mod Comparisons
+pub mod Causes
+pub mod Refusals
 pub mod Blocking
 pub mod Completeness
+pub mod Claims
 pub mod Meanings

@@ -12,9 +12,8 @@ use Rattle.composite_layout.specs.declared.component.Component.{Component}
 use Rattle.object_target.specs.declared.call.CallAnswer.TheVariants as answer
 use Rattle.object_target.specs.declared.call.CallKind.TheVariants as kind
 use Rattle.script_values.specs.declared.command.Command.TheVariants as command
-use Rattle.script_values.specs.Scripts.{ScriptView}
 use Rattle.meta_server.specs.Files.{File, file_named}
-use Rattle.flr_steps.specs.States.{State, state_at}
+use Rattle.flr_steps.specs.States.{State}
 use Rattle.flr_steps.specs.Traces.{Made, Past, made_since_open}
 use Rattle.flr_claims.specs.Histories.{Answered}
 
@@ -67,13 +66,11 @@ pub record HasRightTakes (before : State) (past : Past) (takes : List Take) (nam
   pub right : AreRightTakes file.layout.components (made_since_open past.doing) offset (offset + len) takes pieces
   pub joined : bytes ≡ take (file.size - offset) (flat_map (λ (p : List ℕ). p) pieces)
 
--- a read that answered bytes has right takes, and no other answer has takes
-abbrev pub IsRightly : State → Past → Answered → Reply → Type 0
-IsRightly before past a (reply.Bytes bytes) =
+abbrev pub IsTakenRightly : State → Past → Answered → Reply → Type 0
+IsTakenRightly before past a (reply.Bytes bytes) =
     (name : List ℕ) × (offset : ℕ) × (len : ℕ) × (a.command ≡ command.Read name offset len) × HasRightTakes before past a.entry.takes name offset len bytes
-IsRightly before past a other = a.entry.takes ≡ []
+IsTakenRightly before past a other = a.entry.takes ≡ []
 
--- each answered call is so, by the state before its point and by what it had done
-abbrev pub EachRightly : ScriptView → List ℕ → List Answered → List Past → Type 0
-EachRightly script schedule (a ∷ calls) (p ∷ pasts) = ((before : State) → state_at script schedule (a.entry.at - 1) ≡ Some before → IsRightly before p a a.entry.reply) × EachRightly script schedule calls pasts
-EachRightly script schedule calls pasts = Unit {0}
+-- a read that answered bytes has right takes, and no other answer has takes
+abbrev pub IsRightly : State → Answered → Past → Type 0
+IsRightly before a past = IsTakenRightly before past a a.entry.reply

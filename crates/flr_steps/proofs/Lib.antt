@@ -1,3 +1,9 @@
 pub mod Runs
 pub mod Inversion
 pub mod Induction
+pub mod StepLaws
+pub mod Fronts
+pub mod TraceLaws
+pub mod Unfinished
+pub mod OwnSteps
+pub mod OwnCalls

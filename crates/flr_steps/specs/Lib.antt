@@ -3,5 +3,8 @@ pub mod Clients
 pub mod States
 pub mod Schedules
 pub mod Reports
+pub mod Conditions
 pub mod Traces
 pub mod Steps
+pub mod Runs
+pub mod Owners
