@@ -1,0 +1,5 @@
+pub mod Stripes
+pub mod Layouts
+pub mod Files
+pub mod Steps
+pub mod Calls
