@@ -1,2 +1,3 @@
 pub mod RunLaws
 pub mod PieceLaws
+pub mod Questions

@@ -1,11 +1,13 @@
-ghost use Rattle.std.specs.Prelude.{◌≡◌, ◌<◌, ◌≤◌};
+ghost use Rattle.std.specs.Prelude.{◌≡◌, ◌↔◌, ◌<◌, ◌≤◌, IsTrue, List};
+ghost use Rattle.extent_lock.specs.declared.lock.Lock.{Lock};
 ghost use Rattle.layout_lease.specs.Clients.{IsClient};
 ghost use Rattle.call_steps.specs.Servers.{servers};
 ghost use Rattle.call_steps.specs.Steps.{HasMemory, Steps};
-ghost use Rattle.client_read.specs.Fitting.{IsSoundRead, ReadFits, TakesNoMemory};
+ghost use Rattle.client_read.specs.Fitting.{FitsAt, IsSoundRead, ReadFits, TakesNoMemory};
 ghost use Rattle.client_read.specs.Reads.{new_read, read_by, read_step};
 
 use crate::phase::{Asked, ReadAt};
+use call_steps::{are_there, can_call};
 use extent_lock::ExtentLocks;
 use flr_base::{Name, Progress, Range};
 use meta_server::Meta;
@@ -58,6 +60,13 @@ impl ReadCall {
         }
     }
 
+    /// Whether the next step may be made.
+    pub fn may_step(&self, meta: &Meta, targets: &Targets, _locks: &ExtentLocks) -> bool
+        ensures says { IsTrue result ↔ ReadFits self.now (servers meta.now targets.now _locks.now) }
+    {
+        can_call(targets) && self.asked.fits(&self.at, meta, targets)
+    }
+
     /// Makes the next step.
     ///
     /// At its open the read answers `NoFile` or `AllOffline` at once, with the lowest byte that
@@ -96,6 +105,21 @@ impl ReadCall {
 }
 
 impl Asked {
+    /// Whether the servers are as a step wants them that does this.
+    fn fits(&self, at: &ReadAt, meta: &Meta, targets: &Targets) -> bool
+        ensures { (locks : List Lock) → IsTrue result ↔ FitsAt at.now (read_by self.now at.now) (servers meta.now targets.now locks) }
+    {
+        match at {
+            ReadAt::Open => meta.may_share(self.client, &self.name),
+            ReadAt::Take { reading, next: _ } => are_there(targets, &reading.opened.layout),
+            ReadAt::Lock { .. }
+            | ReadAt::Again { .. }
+            | ReadAt::Confirm { .. }
+            | ReadAt::UnlockAgain
+            | ReadAt::Unlock => true,
+        }
+    }
+
     /// The call, with this to do next.
     pub(crate) fn call(self, at: ReadAt) -> ReadCall
         requires sound { IsSoundRead (read_by self at) }

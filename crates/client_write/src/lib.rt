@@ -1,6 +1,7 @@
 //! A write to a file and a truncate of one, one step at a time.
 #![tactic(auto)]
 
+mod asking;
 mod cutting;
 mod laws;
 mod phase;

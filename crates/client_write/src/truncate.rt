@@ -1,4 +1,4 @@
-ghost use Rattle.std.specs.Prelude.{◌≡◌, ◌+◌, ◌^◌, ◌<◌, ◌≤◌, ◌++◌, ℕ, List, All, length, map, nat_lt, slice_set, IfOk, OnOk, OnErr};
+ghost use Rattle.std.specs.Prelude.{◌≡◌, ◌↔◌, IsTrue, ◌+◌, ◌^◌, ◌<◌, ◌≤◌, ◌++◌, ℕ, List, All, length, map, nat_lt, slice_set, IfOk, OnOk, OnErr};
 ghost use Rattle.layout_lease.specs.Clients.{IsClient};
 ghost use Rattle.extent_lock.specs.declared.lock.Lock.{Lock};
 ghost use Rattle.object_target.specs.Calls.{after_punch, punch_answer};
@@ -9,13 +9,15 @@ ghost use Rattle.meta_server.specs.Opening.{cut_opens};
 ghost use Rattle.call_steps.specs.Servers.{servers, next_call_on, target_at, AreThere, CanCall, HoldsNone};
 ghost use Rattle.client_write.specs.Parts.{came_of};
 ghost use Rattle.call_steps.specs.Steps.{HasMemory, Steps};
-ghost use Rattle.client_write.specs.CutFitting.{CutTakesNoMemory, HasTails, IsSoundCutAt, IsSoundTruncate, TruncateFits};
+ghost use Rattle.client_write.specs.CutFitting.{CutFitsAt, CutTakesNoMemory, HasTails, IsSoundCutAt, IsSoundTruncate, TruncateFits};
 ghost use Rattle.client_write.specs.Refusals.{IsPlainRefusal};
 ghost use Rattle.client_write.specs.Truncates.{IsFirstBlocked, after_punches, commit_cut_step, first_blocker, lock_tails_step, new_truncate, punch_step, tail_lock, truncate_at, truncate_by, truncate_step};
 ghost use Rattle.client_write.specs.declared.phase.CutAt.TheVariants as at;
 
+use crate::asking::has_room;
 use crate::cutting::Cutting;
 use crate::phase::{Came, CutAsked, CutAt, Sent};
+use call_steps::{are_there, can_call, holds_none};
 use extent_lock::{ExtentLocks, LockError, Mode};
 use flr_base::{EOF, FailedCall, Name, NoMemory, Progress, Range, Reply, Takes};
 use meta_server::{Gone, Meta, MetaStop, Opened};
@@ -62,6 +64,13 @@ impl TruncateCall {
         }
     }
 
+    /// Whether the next step may be made.
+    pub fn may_step(&self, meta: &Meta, targets: &Targets, locks: &ExtentLocks) -> bool
+        ensures says { IsTrue result ↔ TruncateFits self.now (servers meta.now targets.now locks.now) }
+    {
+        can_call(targets) && self.asked.fits(&self.at, meta, targets, locks)
+    }
+
     /// Makes the next step, at this place. A step that is blocked, or for which memory runs out,
     /// hands the call back, and leaves everything as it was. An open that is refused with an answer
     /// that names no file, commit, and the steps that only give locks back take no memory.
@@ -95,6 +104,25 @@ impl TruncateCall {
 }
 
 impl CutAsked {
+    /// Whether the file may be opened.
+    fn may_open(&self, meta: &Meta) -> bool
+        ensures { IsTrue result ↔ (MayShare self.now.client self.now.name meta.now × HasGenerationRoom meta.now × HasObjectRoom meta.now) }
+    {
+        meta.may_share(self.client, &self.name) && has_room(meta)
+    }
+
+    /// Whether the servers are as a step wants them that does this.
+    fn fits(&self, at: &CutAt, meta: &Meta, targets: &Targets, locks: &ExtentLocks) -> bool
+        ensures { IsTrue result ↔ CutFitsAt at.now (truncate_by self.now at.now) (servers meta.now targets.now locks.now) }
+    {
+        match at {
+            CutAt::Open => self.may_open(meta),
+            CutAt::Lock { cutting: _ } => holds_none(self.client, locks),
+            CutAt::Punch { cutting, next: _ } => are_there(targets, &cutting.opened().layout),
+            CutAt::Commit { .. } | CutAt::UnlockAgain | CutAt::Unlock => true,
+        }
+    }
+
     /// The call, with this to do next.
     fn call(self, at: CutAt) -> TruncateCall
         requires sound { IsSoundTruncate (truncate_by self at) }

@@ -1,4 +1,4 @@
-ghost use Rattle.std.specs.Prelude.{◌≡◌, ◌+◌, ◌-◌, ◌^◌, ◌<◌, ◌≤◌, ◌++◌, ◌∷◌, [], ℕ, true, List, length, take, drop, is_some, nat_lt, slice_set, IfOk, OnOk, OnErr};
+ghost use Rattle.std.specs.Prelude.{◌≡◌, ◌↔◌, IsTrue, ◌+◌, ◌-◌, ◌^◌, ◌<◌, ◌≤◌, ◌++◌, ◌∷◌, [], ℕ, true, List, length, take, drop, is_some, nat_lt, slice_set, IfOk, OnOk, OnErr};
 ghost use Rattle.layout_lease.specs.Clients.{IsClient};
 ghost use Rattle.extent_lock.specs.declared.lock.Lock.{Lock};
 ghost use Rattle.extent_lock.specs.Extents.{blocked_by, blocker};
@@ -10,14 +10,16 @@ ghost use Rattle.meta_server.specs.Opening.{write_opens};
 ghost use Rattle.call_steps.specs.Pieces.{object_of, piece_at};
 ghost use Rattle.call_steps.specs.Servers.{servers, next_call_on, target_at, AreThere, CanCall};
 ghost use Rattle.call_steps.specs.Steps.{HasMemory, Steps};
-ghost use Rattle.client_write.specs.Fitting.{HasPieces, IsAsked, IsSoundAt, IsSoundWrite, TakesNoMemory, WriteFits};
+ghost use Rattle.client_write.specs.Fitting.{FitsAt, HasPieces, IsAsked, IsSoundAt, IsSoundWrite, TakesNoMemory, WriteFits};
 ghost use Rattle.client_write.specs.Parts.{MayBeWritten, came_of};
 ghost use Rattle.client_write.specs.Refusals.{IsPlainRefusal};
 ghost use Rattle.client_write.specs.Writes.{after_send, bytes_of, commit_step, lock_for, lock_step, new_write, range_of, reply_of, send_step, write_at, write_by, write_step};
 ghost use Rattle.client_write.specs.declared.phase.WriteAt.TheVariants as at;
 
+use crate::asking::has_room;
 use crate::phase::{Asked, Came, Sent, WriteAt};
 use crate::writing::Writing;
+use call_steps::{are_there, can_call};
 use extent_lock::{ExtentLocks, LockError, Mode};
 use flr_base::{FailedCall, Name, NoMemory, ObjectId, Octets, Progress, Range, Reply, Takes};
 use meta_server::{Gone, Meta, MetaStop, Opened};
@@ -67,6 +69,13 @@ impl WriteCall {
         }
     }
 
+    /// Whether the next step may be made.
+    pub fn may_step(&self, meta: &Meta, targets: &Targets, _locks: &ExtentLocks) -> bool
+        ensures says { IsTrue result ↔ WriteFits self.now (servers meta.now targets.now _locks.now) }
+    {
+        can_call(targets) && self.asked.fits(&self.at, meta, targets)
+    }
+
     /// Makes the next step, at this place. A step that is blocked, or for which memory runs out,
     /// hands the call back, and leaves everything as it was. An open that is refused with an answer
     /// that names no file, commit, and the steps that only give locks back take no memory.
@@ -100,6 +109,27 @@ impl WriteCall {
 }
 
 impl Asked {
+    /// Whether the file may be opened.
+    fn may_open(&self, meta: &Meta) -> bool
+        ensures { IsTrue result ↔ (MayShare self.now.client self.now.name meta.now × HasGenerationRoom meta.now × HasObjectRoom meta.now) }
+    {
+        meta.may_share(self.client, &self.name) && has_room(meta)
+    }
+
+    /// Whether the servers are as a step wants them that does this.
+    fn fits(&self, at: &WriteAt, meta: &Meta, targets: &Targets) -> bool
+        ensures { (locks : List Lock) → IsTrue result ↔ FitsAt at.now (write_by self.now at.now) (servers meta.now targets.now locks) }
+    {
+        match at {
+            WriteAt::Open => self.may_open(meta),
+            WriteAt::Send { writing, next: _ } => are_there(targets, &writing.opened().layout),
+            WriteAt::Lock { .. }
+            | WriteAt::Commit { .. }
+            | WriteAt::UnlockAgain
+            | WriteAt::Unlock => true,
+        }
+    }
+
     /// The call, with this to do next.
     fn call(self, at: WriteAt) -> WriteCall
         requires sound { IsSoundWrite (write_by self at) }

@@ -1,5 +1,5 @@
 -- How many elements a filter keeps, and reads of lists.
-use Rattle.std.proofs.Common.{◌≡◌, ℕ, zero, suc, ◌+◌, ◌*◌, ◌<◌, ◌≤◌, Bool, true, false, not, cond, nat_le, ◌==◌, ◌||◌, List, [], ◌∷◌, ◌++◌, length, get_or, All, map, Contains, find, Some, None, ◌⊎◌, inl, inr, refl, sym, ap, ◌∙◌, subst, arith, filter}
+use Rattle.std.proofs.Common.{◌≡◌, ◌↔◌, ℕ, zero, suc, ◌+◌, ◌*◌, ◌<◌, ◌≤◌, Bool, true, false, not, cond, nat_le, ◌==◌, ◌||◌, List, [], ◌∷◌, ◌++◌, length, get_or, All, map, Contains, find, Some, None, ◌⊎◌, inl, inr, refl, sym, ap, ◌∙◌, subst, arith, filter}
 use Rattle.std.proofs.lemmas.Bool.{le-leb, lt-leb, or_cases, or_left, or_right}
 use Rattle.std.proofs.lemmas.Bool.Decides.{nat_tests}
 use Rattle.std.proofs.lemmas.List.Elements.{All-head, All-tail, All-weaker, filter-append, Contains-append_right, Contains-append_cases, Contains-push_cases}
@@ -246,3 +246,13 @@ module _ {X Y : Type 0} where
   filter_unseen p f g hp hf [] = refl
   filter_unseen p f g hp hf (x ∷ xs) =
       ap (λ b. map f (cond b (g x ∷ filter p (map g xs)) (filter p (map g xs)))) (hp x) ∙ same_at f x (p x) g (filter p (map g xs)) (filter p xs) (hf x) (filter_unseen p f g hp hf xs)
+
+module _ {X : Type 0} where
+  keeps_at : (x : X) (b found : Bool) (ys : List X) → ((found ≡ false) ↔ (ys ≡ [])) → ((b || found) ≡ false) ↔ (cond b (x ∷ ys) ys ≡ [])
+  keeps_at x true found ys h = (λ e. absurd (cc), λ e. absurd (cc))
+  keeps_at x false found ys h = h
+
+  -- a test finds nothing exactly where its filter keeps nothing
+  pub none_kept : (p : X → Bool) (xs : List X) → (list_any p xs ≡ false) ↔ (filter p xs ≡ [])
+  none_kept p [] = (λ e. refl, λ e. refl)
+  none_kept p (x ∷ xs) = keeps_at x (p x) (list_any p xs) (filter p xs) (none_kept p xs)

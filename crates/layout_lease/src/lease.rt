@@ -1,4 +1,5 @@
-ghost use Rattle.std.specs.Prelude.{◌≡◌, ◌≢◌, ℕ, ◌-◌, ◌^◌, ◌<◌, ◌≤◌, [], ◌∷◌, ◌++◌, Some, None, IfOk, OnErr, OnOk, filter, find, length, map, not, option_map, take};
+ghost use Rattle.std.specs.Prelude.{◌≡◌, ◌≢◌, ◌↔◌, ◌==◌, ℕ, ◌-◌, ◌^◌, ◌<◌, ◌≤◌, [], false, ◌∷◌, ◌++◌, Some, None, IfOk, OnErr, OnOk, filter, find, length, map, not, option_map, take};
+ghost use Rattle.std.specs.List.{list_any};
 ghost use Rattle.std.specs.Option.{option_map_or};
 ghost use Rattle.std.specs.Result.{result_err};
 ghost use Rattle.layout_lease.specs.Clients.{IsClient};
@@ -189,6 +190,20 @@ impl LeaseTable {
         }
     }
 
+    /// The number of the next key.
+    pub fn next_key(&self) -> u32
+        ensures same { result ≡ self.now.next }
+    {
+        self.next
+    }
+
+    /// Whether the client has a key, broken or not.
+    pub fn has_key(&self, client: u8) -> bool
+        ensures says { (result ≡ false) ↔ (keys_of client self.now.keys ≡ []) }
+    {
+        has_lease_of(&self.leases[..self.len], client)
+    }
+
     /// The client that has the unbroken lease of the file.
     pub fn holder(&self, file: u32) -> Option<u8>
         ensures holder { result ≡ holder_of self.now file }
@@ -240,6 +255,13 @@ impl LeaseTable {
     {
         self.len = keep_but(&mut self.leases, self.len, &key);
     }
+}
+
+/// Whether one of the leases is the client's.
+fn has_lease_of(leases: &[Lease], client: u8) -> bool
+    ensures { result ≡ list_any (λ lease. lease.client == client) leases.now }
+{
+    leases.iter().any(|lease| lease.client == client)
 }
 
 /// The unbroken lease of the file among these.

@@ -1,4 +1,4 @@
-ghost use Rattle.std.specs.Prelude.{◌≡◌, ◌-◌, ◌^◌, ◌<◌, ◌≤◌, ◌==◌, ◌↔◌, [], ◌∷◌, if◌then◌else◌, IsTrue, Contains, filter, length, map, not, take};
+ghost use Rattle.std.specs.Prelude.{◌≡◌, ◌-◌, ◌^◌, ◌<◌, ◌≤◌, ◌==◌, ◌↔◌, [], ◌∷◌, false, if◌then◌else◌, IsTrue, Contains, filter, length, map, not, take};
 ghost use Rattle.std.specs.List.{list_any};
 ghost use Rattle.layout_lease.specs.Clients.{IsClient};
 ghost use Rattle.layout_lease.specs.Shares.{cookie_for, cookies_but, cookies_of, evicted, freed, IsSoundLock, is_held, lowest, lowest_but, new_lock, same_cookie, shared, with_lower};
@@ -97,6 +97,20 @@ impl LayoutLock {
         Cookie { share }
     }
 
+    /// The number of the next cookie.
+    pub fn next_cookie(&self) -> u32
+        ensures same { result ≡ self.now.next }
+    {
+        self.next
+    }
+
+    /// Whether the client holds a cookie.
+    pub fn shares(&self, client: u8) -> bool
+        ensures says { (result ≡ false) ↔ (cookies_of client self.now.cookies ≡ []) }
+    {
+        has_share_of(&self.shares[..self.len], client)
+    }
+
     /// Whether the cookie is still held.
     pub fn holds(&self, cookie: &Cookie) -> bool
         ensures held { result ≡ is_held self.now cookie.now }
@@ -145,6 +159,13 @@ fn is_listed(shares: &[Share], wanted: Share) -> bool
     ensures { result ≡ list_any (λ share. same_cookie share wanted) shares.now }
 {
     shares.iter().any(|share| share.is_same(wanted))
+}
+
+/// Whether one of the shares is the client's.
+fn has_share_of(shares: &[Share], client: u8) -> bool
+    ensures { result ≡ list_any (λ share. share.client == client) shares.now }
+{
+    shares.iter().any(|share| share.client == client)
 }
 
 /// The lowest client of these shares but this one.

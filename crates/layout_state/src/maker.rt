@@ -44,6 +44,13 @@ impl ObjectMaker {
         self.next.iter().all(|number| *number < 4286578688)
     }
 
+    /// Whether each next number is below this one.
+    pub fn is_below(&self, limit: u32) -> bool
+        ensures says { result ≡ list_all (λ number. nat_lt number limit) self.now }
+    {
+        self.next.iter().all(|number| *number < limit)
+    }
+
     /// The same numbers once more.
     pub fn copy(&self) -> Result<ObjectMaker, NoMemory>
         ensures same { IfOk result (λ copy. copy ≡ self.now) }

@@ -7,3 +7,4 @@ pub mod Added
 pub mod SoundFiles
 pub mod Coming
 pub mod Both
+pub mod Asking

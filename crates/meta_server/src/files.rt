@@ -1,19 +1,21 @@
 //! The files by name, in order of creation.
 
-ghost use Rattle.std.specs.Prelude.{◌≡◌, ◌-◌, ◌^◌, ◌<◌, ◌≤◌, ◌==◌, ◌∷◌, ◌++◌, [], None, length, map, max, option_map, nat_eq, IfOk, IfSome, OnErr, OnOk, position, ℕ, ◌+◌};
+ghost use Rattle.std.specs.Prelude.{◌≡◌, ◌↔◌, IsTrue, nat_lt, ◌-◌, ◌^◌, ◌<◌, ◌≤◌, ◌==◌, ◌∷◌, ◌++◌, [], None, length, map, max, option_map, nat_eq, IfOk, IfSome, OnErr, OnOk, position, ℕ, ◌+◌};
 ghost use Rattle.indexmap.specs.IndexMap.{values};
 ghost use Rattle.meta_server.specs.declared.files.Kept.{Kept};
 ghost use Rattle.meta_server.specs.Listing.{file_of_entry, without_cookies};
-ghost use Rattle.std.specs.List.{AllByRecursion};
+ghost use Rattle.std.specs.List.{AllByRecursion, list_all};
 ghost use Rattle.composite_layout.specs.LookUps.{wholly_fresh};
 ghost use Rattle.layout_lease.specs.Clients.{IsClient};
 ghost use Rattle.layout_lease.specs.Shares.{cookie_for, cookies_of, evicted, freed, is_held, lowest_but, new_lock, shared};
 ghost use Rattle.layout_state.specs.Marking.{flags_refusal};
 ghost use Rattle.layout_state.specs.Mirroring.{keeping};
 ghost use Rattle.meta_server.specs.Closing.{grown, shortened};
-ghost use Rattle.meta_server.specs.Files.{AreBelow, changed, file_at, file_named, file_of, new_file, with_evicted, with_freed, with_layout, with_share, without_file};
+ghost use Rattle.meta_server.specs.Conditions.{IsRoom};
+ghost use Rattle.meta_server.specs.Files.{AreBelow, File, changed, file_at, file_named, file_of, new_file, with_evicted, with_freed, with_layout, with_share, without_file};
 ghost use Rattle.meta_server.specs.Layouts.{finished, flagged};
 
+use crate::room::ROOM;
 use composite_layout::{FlagChange, Layout};
 use flr_base::{Ids, Name, NoMemory};
 use indexmap::IndexMap;
@@ -203,6 +205,22 @@ impl Files {
         self.kept(place).lock.holds(cookie)
     }
 
+    /// Whether the client may share the layout lock of the file at this place.
+    pub fn may_share(&self, place: usize, client: u8) -> bool
+        requires { place < length self.now }
+        ensures { let f = file_at self.now place in IsTrue result ↔ ((cookies_of client f.lock.cookies ≡ []) × IsRoom f.lock.next) }
+    {
+        let lock = &self.kept(place).lock;
+        !lock.shares(client) && lock.next_cookie() < ROOM
+    }
+
+    /// Whether the generation of each file leaves room for changes.
+    pub fn have_generation_room(&self) -> bool
+        ensures { IsTrue result ↔ AllByRecursion (λ (f : File). f.layout.generation < 2 ^ 32 - 65536) self.now }
+    {
+        are_young(&self.entries)
+    }
+
     /// The lowest other client that holds the layout lock of the file at this place.
     pub fn free_but(&self, place: usize, client: u8) -> Option<u8>
         requires { place < length self.now }
@@ -332,6 +350,15 @@ fn first_numbered(entries: &IndexMap<Name, Kept>, number: u32) -> Option<usize>
     ensures within { IfSome result (λ place. place < length entries.now.entries) }
 {
     entries.values().position(|kept| kept.number == number)
+}
+
+/// Whether the generation of each file leaves room for changes.
+fn are_young(entries: &IndexMap<Name, Kept>) -> bool
+    ensures { result ≡ list_all (λ (kept : Kept). nat_lt kept.layout.generation (2 ^ 32 - 65536)) (values entries.now) }
+{
+    entries
+        .values()
+        .all(|kept| kept.layout.generation() < 4294901760)
 }
 
 /// The client's cookies of all files are taken.

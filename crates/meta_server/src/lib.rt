@@ -17,6 +17,7 @@ mod laws;
 mod meta;
 mod offline;
 mod open;
+mod room;
 mod shapes;
 mod victim;
 

@@ -1,4 +1,4 @@
-ghost use Rattle.std.specs.Prelude.{◌≡◌, ◌^◌, ◌<◌, ◌≤◌, [], List, length, option_map, IfSome};
+ghost use Rattle.std.specs.Prelude.{◌≡◌, ◌↔◌, IsTrue, ◌^◌, ◌<◌, ◌≤◌, [], List, length, option_map, IfSome};
 ghost use Rattle.extent_lock.specs.declared.lock.Lock.{Lock};
 ghost use Rattle.flr_base.specs.declared.reply.Progress.TheVariants as progress;
 ghost use Rattle.flr_base.specs.declared.reply.Reply.TheVariants as reply;
@@ -9,7 +9,7 @@ ghost use Rattle.object_target.specs.TargetState.{TargetState};
 ghost use Rattle.call_steps.specs.Servers.{servers, AreThere, CanCall};
 ghost use Rattle.call_steps.specs.Steps.{HasMemory, Steps};
 ghost use Rattle.mirror_verify.specs.Blocks.{blocks_in, next_object};
-ghost use Rattle.mirror_verify.specs.Fitting.{HasCopies, IsSmall, IsSoundAt, IsSoundVerify, TakesNoMemory, VerifyFits};
+ghost use Rattle.mirror_verify.specs.Fitting.{FitsAt, HasCopies, IsSmall, IsSoundAt, IsSoundVerify, TakesNoMemory, VerifyFits};
 ghost use Rattle.mirror_verify.specs.Verifies.{compared, new_verify, takes_from, verify_at, verify_by, verify_step};
 ghost use Rattle.mirror_verify.specs.declared.phase.VerifyAt.TheVariants as at;
 
@@ -17,11 +17,15 @@ use crate::blocks::copies_of;
 use crate::copies::BlockCopy;
 use crate::found::{Found, next_object};
 use crate::phase::{Asked, VerifyAt, Verifying};
+use call_steps::{are_there, can_call};
 use flr_base::{Diffs, FailedCall, Name, Progress, Reply, Takes};
 use meta_server::{Meta, MetaStop, Opened};
 use object_target::{TargetError, Targets};
 use std::alloc::Global;
 use std::marker::Model;
+
+/// The greatest size of a file, in bytes.
+const MOST_BYTES: u64 = 268435456;
 
 /// A verify of a file, one step at a time: open, a take for each copy of a block that isn't a hole,
 /// close. A block of 65536 bytes, cut at the file's size, is compared where at least two fresh
@@ -60,6 +64,13 @@ impl VerifyCall {
         }
     }
 
+    /// Whether the next step may be made.
+    pub fn may_step(&self, meta: &Meta, targets: &Targets) -> bool
+        ensures says { IsTrue result ↔ VerifyFits self.now meta.now targets.now }
+    {
+        can_call(targets) && self.asked.fits(&self.at, meta, targets)
+    }
+
     /// Makes the next step. One for which memory runs out hands the call back, and leaves everything
     /// as it was; none is blocked. Close takes no memory.
     pub fn step(self, meta: &mut Meta, targets: &mut Targets, _step: u32) -> Progress<VerifyCall>
@@ -77,6 +88,24 @@ impl VerifyCall {
 }
 
 impl Asked {
+    /// Whether the file may be opened.
+    fn may_open(&self, meta: &Meta) -> bool
+        ensures { IsTrue result ↔ (MayShare self.now.client self.now.name meta.now × IsSmall self.now.name meta.now) }
+    {
+        meta.may_share(self.client, &self.name) && is_small(meta, &self.name)
+    }
+
+    /// Whether the servers are as a step wants them that does this.
+    fn fits(&self, at: &VerifyAt, meta: &Meta, targets: &Targets) -> bool
+        ensures { IsTrue result ↔ FitsAt at.now (verify_by self.now at.now) meta.now targets.now }
+    {
+        match at {
+            VerifyAt::Open => self.may_open(meta),
+            VerifyAt::Take { verifying, next: _ } => are_there(targets, &verifying.opened.layout),
+            VerifyAt::Close { .. } => true,
+        }
+    }
+
     /// The call, with this to do next.
     fn call(self, at: VerifyAt) -> VerifyCall
         requires sound { IsSoundVerify (verify_by self at) }
@@ -215,6 +244,16 @@ impl Asked {
             reply,
             takes: Takes::new(self.alloc),
         }
+    }
+}
+
+/// Whether the file of this name, if it is there, isn't too big.
+fn is_small(meta: &Meta, name: &Name) -> bool
+    ensures { IsTrue result ↔ IsSmall name.now meta.now }
+{
+    match place_named(meta, name) {
+        Some(place) => meta.file_at(place).1 <= MOST_BYTES,
+        None => true,
     }
 }
 

@@ -1,6 +1,7 @@
-ghost use Rattle.std.specs.Prelude.{◌≡◌, ◌<◌, ◌≤◌, Some, IfOk, length, slice_get};
+ghost use Rattle.std.specs.Prelude.{◌≡◌, ◌<◌, ◌≤◌, Some, IfOk, length, nat_lt, slice_get};
 ghost use Rattle.std.specs.Borrow.{sem};
-ghost use Rattle.object_target.specs.TargetState.{new_targets};
+ghost use Rattle.std.specs.List.{list_all};
+ghost use Rattle.object_target.specs.TargetState.{new_targets, next_call};
 
 use crate::fail::Fail;
 use crate::target::Target;
@@ -38,6 +39,22 @@ impl Targets {
             items.push(target)?;
         }
         Ok(Targets { items })
+    }
+
+    /// How many targets there are.
+    pub fn len(&self) -> usize
+        ensures count { result ≡ length self.now }
+    {
+        self.items.len()
+    }
+
+    /// Whether the next call of each target has a number below this one.
+    pub fn are_below(&self, limit: u32) -> bool
+        ensures says { result ≡ list_all (λ target. nat_lt (next_call target) limit) self.now }
+    {
+        self.items
+            .iter()
+            .all(|target| target.calls().len() + 1 < limit as usize)
     }
 
     /// The target with this id.

@@ -229,7 +229,7 @@ head_open : (ds : List Destination) (c : Component) (os : List ObjectId) (tail :
 head_open ds c [] tail d h e = absurd (omega arith)
 head_open ds c (o ∷ os) tail d h e = e
 
-opens : (side : Side) (ids : List ℕ) → IsCopying (begun_copy side ids) → 0 < length (resets_of (begun_copy side ids)) → (i : ℕ) × (next_reset (begun_copy side ids) 0 ≡ Some i)
+pub opens : (side : Side) (ids : List ℕ) → IsCopying (begun_copy side ids) → 0 < length (resets_of (begun_copy side ids)) → (i : ℕ) × (next_reset (begun_copy side ids) 0 ≡ Some i)
 opens side [] k some = absurd (omega (arith, some))
 opens side (id ∷ ids) k some =
     let cs : List Component = side.layout.components in

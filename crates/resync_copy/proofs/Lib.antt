@@ -6,3 +6,4 @@ pub mod StepLaws
 pub mod MergeLaws
 pub mod TakeLaws
 pub mod NothingLaws
+pub mod Wants

@@ -1,4 +1,4 @@
-ghost use Rattle.std.specs.Prelude.{◌≡◌, [], List};
+ghost use Rattle.std.specs.Prelude.{◌≡◌, ◌↔◌, IsTrue, [], List};
 ghost use Rattle.extent_lock.specs.declared.lock.Lock.{Lock};
 ghost use Rattle.layout_lease.specs.Clients.{IsClient};
 ghost use Rattle.layout_lease.specs.Leases.{keys_of};
@@ -17,6 +17,7 @@ use crate::merge_phase::MergeStage;
 use crate::merging::{compared, merge_fences_from};
 use crate::phase::{Asked, CopyStage, Phase};
 use crate::stages::fences_from;
+use call_steps::can_call;
 use extent_lock::ExtentLocks;
 use flr_base::{Ids, Lefts, Name, Progress, Reply, Takes};
 use meta_server::{Begun, CopyWhat, Meta, MetaStop};
@@ -63,6 +64,13 @@ impl CopyCall {
             },
             phase: Phase::Begin,
         }
+    }
+
+    /// Whether the next step may be made.
+    pub fn may_step(&self, meta: &Meta, targets: &Targets, locks: &ExtentLocks) -> bool
+        ensures says { IsTrue result ↔ CopyFits self.now (servers meta.now targets.now locks.now) }
+    {
+        can_call(targets) && self.asked.fits(&self.phase, meta, targets, locks)
     }
 
     /// Makes the next step, at this place. One that is blocked, or for which memory runs out, hands

@@ -2,6 +2,7 @@
 //! in by the other, one step at a time.
 #![tactic(auto)]
 
+mod asking;
 mod calls;
 mod chunks;
 mod comparing;
