@@ -1,0 +1,4 @@
+pub mod Ascending
+pub mod WordLaws
+pub mod AnswerLaws
+pub mod LineLaws
