@@ -11,6 +11,7 @@ use Rattle.composite_layout.specs.declared.spec.MirrorSpec.{MirrorSpec}
 use Rattle.composite_layout.specs.declared.spec.SpecError.{SpecError}
 use Rattle.composite_layout.specs.declared.spec.SpecError.TheVariants as errors
 use Rattle.composite_layout.specs.Specs.{refusal_of}
+use Rattle.composite_layout.proofs.Good.{called_for}
 use Rattle.lfs_values.specs.Causes.{cause_at}
 use Rattle.lfs_values.specs.declared.cause.Cause.{Cause}
 use Rattle.lfs_values.specs.declared.cause.Cause.TheVariants as causes
@@ -33,6 +34,7 @@ use Rattle.lfs_words.specs.Reading.{step, place_at, ends, command_of, read_of, A
 use Rattle.lfs_words.specs.Grammar.{IsAsked, IsLine, Spells, IsRefused, IsBehindForm, IsCause}
 use Rattle.lfs_words.proofs.Lines.{Stands, asked_reads, asked_of}
 use Rattle.lfs_words.proofs.Completing.{lfs_reads}
+use Rattle.lfs_words.proofs.Wanting.{no_want}
 
 -- ---- what may be wrong with the whole
 
@@ -43,24 +45,24 @@ IsWhole causes.TooManyMirrors = Unit {0}
 IsWhole causes.TooManyParts = Unit {0}
 IsWhole (causes.Unaligned at) = Unit {0}
 IsWhole (causes.Gap at) = Unit {0}
-IsWhole causes.Memory = Unit {0}
 IsWhole _ = ⊥
 
 if_err_bound : {A B : Type 0} (r : Result A Cause) (f : A → Result B Cause) → IfErr r IsWhole → ((x : A) → IfErr (f x) IsWhole) → IfErr (r >>= f) IsWhole
 if_err_bound (Ok x) f h k = k x
 if_err_bound (Err c) f h k = h
 
-refusal_whole : {A : Type 0} (refusal : Option SpecError) (x : A) → IfErr (unless refusal x) IsWhole
-refusal_whole None x = tt
-refusal_whole (Some errors.NoMirror) x = tt
-refusal_whole (Some errors.TooManyMirrors) x = tt
-refusal_whole (Some errors.TooManyParts) x = tt
-refusal_whole (Some (errors.Unaligned at)) x = tt
-refusal_whole (Some (errors.Gap at)) x = tt
-refusal_whole (Some errors.NoMemory) x = tt
+-- the mirrors aren't refused for want of memory
+refusal_whole : {A : Type 0} (ms : List MirrorSpec) (most : ℕ) (refusal : Option SpecError) (x : A) → refusal_of ms most ≡ refusal → IfErr (unless refusal x) IsWhole
+refusal_whole ms most None x e = tt
+refusal_whole ms most (Some errors.NoMirror) x e = tt
+refusal_whole ms most (Some errors.TooManyMirrors) x e = tt
+refusal_whole ms most (Some errors.TooManyParts) x e = tt
+refusal_whole ms most (Some (errors.Unaligned at)) x e = tt
+refusal_whole ms most (Some (errors.Gap at)) x e = tt
+refusal_whole ms most (Some errors.NoMemory) x e = let none : refusal_of ms most ≡ None = called_for ms most errors.NoMemory e in absurd cc
 
 spec_whole : (most : ℕ) (asked : List MirrorAsk) (f : List MirrorSpec → LfsCommand) → IfErr (spec_of most asked >>= λ spec. Ok (f spec)) IsWhole
-spec_whole most asked f = if_err_bound (spec_of most asked) (λ spec. Ok (f spec)) (refusal_whole (refusal_of (expanded asked) most) _) (λ spec. tt)
+spec_whole most asked f = if_err_bound (spec_of most asked) (λ spec. Ok (f spec)) (refusal_whole (expanded asked) most (refusal_of (expanded asked) most) _ refl) (λ spec. tt)
 
 other_whole : (other name : List ℕ) → IfErr (other_file other name) IsWhole
 other_whole other name = cond_both (bytes_eq other name) _ _ (λ r. IfErr r IsWhole) (λ _. tt) (λ _. tt)
@@ -102,15 +104,14 @@ err_at : {A : Type 0} (r : Result A Cause) (cause : Cause) → IfErr r IsWhole �
 err_at (Ok x) cause h e = absurd cc
 err_at (Err c) cause h e = let same : c ≡ cause = cc in subst IsWhole same h
 
-whole_cause : (most : ℕ) (words : List (List ℕ)) (cause : Cause) → cause ≢ causes.Memory → IsWhole cause → IsRefused most words cause → IsCause most words cause
-whole_cause most words causes.SameFile n h r = r
-whole_cause most words causes.NoMirror n h r = r
-whole_cause most words causes.TooManyMirrors n h r = r
-whole_cause most words causes.TooManyParts n h r = r
-whole_cause most words (causes.Unaligned at) n h r = r
-whole_cause most words (causes.Gap at) n h r = r
-whole_cause most words causes.Memory n h r = absurd (n refl)
-whole_cause most words cause n h r = absurd h
+whole_cause : (most : ℕ) (words : List (List ℕ)) (cause : Cause) → IsWhole cause → IsRefused most words cause → IsCause most words cause
+whole_cause most words causes.SameFile h r = r
+whole_cause most words causes.NoMirror h r = r
+whole_cause most words causes.TooManyMirrors h r = r
+whole_cause most words causes.TooManyParts h r = r
+whole_cause most words (causes.Unaligned at) h r = r
+whole_cause most words (causes.Gap at) h r = r
+whole_cause most words cause h r = absurd h
 
 -- ---- the laws of reading
 
@@ -162,18 +163,32 @@ missing_at most words s cause is no_end same =
     subst (IsCause most words) same (ends_early (step most) (lfs_reads most) words s is
     (λ line. no_end (let other = line_read most words line.0 line.1 line.2 in let ends_so : state.Done line.0 line.1 ≡ s = cc in subst IsEnd ends_so tt)))
 
-first_at : (most : ℕ) (words : List (List ℕ)) (cause : Cause) (r : Result State (ℕ × Fault)) → cause ≢ causes.Memory → reads (step most) 0 state.Start words ≡ r → command_of most r ≡ Err cause → IsCause most words cause
-first_at most words cause (Err fault) n is e =
+first_at : (most : ℕ) (words : List (List ℕ)) (cause : Cause) (r : Result State (ℕ × Fault)) → reads (step most) 0 state.Start words ≡ r → command_of most r ≡ Err cause → IsCause most words cause
+first_at most words cause (Err fault) is e =
     let same : cause_at fault.1 (place_at fault.0) ≡ cause = cc in
     subst (IsCause most words) same (fault_cause most words fault.0 fault.1 (first_fault (step most) (lfs_reads most) words [] fault.0 fault.1 is))
-first_at most words cause (Ok (state.Done a name)) n is e =
+first_at most words cause (Ok (state.Done a name)) is e =
     let led = read_stands (step most) (lfs_reads most) words (state.Done a name) is in
-    whole_cause most words cause n (err_at (checked most a name) cause (whole most a name led.complete) e) (a, name, asked_of most a name words led, e)
-first_at most words cause (Ok s) n is e = missing_at most words s cause is (λ h. h) cc
+    whole_cause most words cause (err_at (checked most a name) cause (whole most a name led.complete) e) (a, name, asked_of most a name words led, e)
+first_at most words cause (Ok s) is e = missing_at most words s cause is (λ h. h) cc
 
-pub first : (most : ℕ) (words : List (List ℕ)) (cause : Cause) → cause ≢ causes.Memory → read_of most words ≡ Err cause → IsCause most words cause
+pub first : (most : ℕ) (words : List (List ℕ)) (cause : Cause) → read_of most words ≡ Err cause → IsCause most words cause
 unfolding read_of
-first most words cause n e = first_at most words cause (reads (step most) 0 state.Start words) n refl e
+first most words cause e = first_at most words cause (reads (step most) 0 state.Start words) refl e
+
+not_wanting : (most : ℕ) (words : List (List ℕ)) (cause : Cause) (r : Result State (ℕ × Fault)) → reads (step most) 0 state.Start words ≡ r → command_of most r ≡ Err cause → cause ≡ causes.Memory → ⊥
+not_wanting most words cause (Err fault) is e m =
+    let same : cause_at fault.1 (place_at fault.0) ≡ cause = cc in
+    no_want fault.1 (place_at fault.0) (same ∙ m)
+not_wanting most words cause (Ok (state.Done a name)) is e m =
+    let led = read_stands (step most) (lfs_reads most) words (state.Done a name) is in
+    subst IsWhole m (err_at (checked most a name) cause (whole most a name led.complete) e)
+not_wanting most words cause (Ok s) is e m = let same : causes.Missing ≡ cause = cc in let clash : causes.Missing ≡ causes.Memory = same ∙ m in absurd cc
+
+-- what words are no command for is never want of memory
+pub no_memory : (most : ℕ) (words : List (List ℕ)) (cause : Cause) → read_of most words ≡ Err cause → cause ≢ causes.Memory
+unfolding read_of
+no_memory most words cause e = λ m. not_wanting most words cause (reads (step most) 0 state.Start words) refl e m
 
 -- ---- answers
 
@@ -186,7 +201,7 @@ answer_read most words (Ok command) h m = found most words command h
 answer_read most words (Err cause) h m =
     elim (is_memory cause) [
       | inl e ↦ subst (IsCause most words) (sym e) (m (ap (λ (c : Cause). Err c) e))
-      | inr n ↦ first most words cause n (h n)
+      | inr n ↦ first most words cause (h n)
     ]
 
 pub answer_again : (most : ℕ) (words : List (List ℕ)) (r : Result LfsCommand Cause) → Answers r (read_of most words) → (command : LfsCommand) → Spells most words command → MatchResult r (λ found. found ≡ command) (λ cause. cause ≡ causes.Memory)

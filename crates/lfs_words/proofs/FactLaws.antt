@@ -1,23 +1,20 @@
 -- What is known of each command that some words spell.
-use Rattle.std.proofs.Common.{◌≡◌, ◌≢◌, ℕ, ℤ, pos, negsuc, ◌-◌, ◌^◌, ◌<◌, ◌≤◌, Bool, true, false, cond, eqb, ltb, List, [], ◌∷◌, length, map, Result, Ok, Err, Option, Some, None, refl, sym, ap, subst, ◌∙◌, arith}
-use Rattle.std.specs.Prelude.{IfOk, IfSome, ◌≤ℤ◌}
-use Rattle.std.specs.List.{AllByRecursion, list_any}
+use Rattle.std.proofs.Common.{◌≡◌, ◌≢◌, ℕ, ℤ, pos, negsuc, ◌≤◌, Bool, true, false, cond, eqb, ltb, List, [], ◌∷◌, length, map, Ok, Err, Option, Some, None, refl, sym, subst, arith}
+use Rattle.std.specs.Prelude.{IfOk, ◌≤ℤ◌}
+use Rattle.std.specs.List.{AllByRecursion}
 use Rattle.std.specs.Str.{bytes_eq}
-use Rattle.std.proofs.lemmas.Bool.{cond_both, ltb-false}
+use Rattle.std.proofs.lemmas.Bool.{ltb-false}
 use Rattle.std.proofs.lemmas.List.{length-map}
 use Rattle.std.proofs.lemmas.Slice.Eq.{bytes_eq-Decides}
-use Rattle.composite_layout.specs.FlagChanges.{FlagSets, AreFlagSets}
+use Rattle.composite_layout.specs.FlagChanges.{FlagSets}
 use Rattle.composite_layout.specs.declared.spec.Part.{Part}
 use Rattle.composite_layout.specs.declared.spec.MirrorSpec.{MirrorSpec}
 use Rattle.composite_layout.specs.declared.spec.SpecError.{SpecError}
-use Rattle.composite_layout.specs.Specs.{IsAskedPart, IsAsked, refusal_of, normal_mirror, mirrors_fault, IsSpec}
+use Rattle.composite_layout.specs.Specs.{IsAskedPart, refusal_of, normal_mirror, IsSpec}
 use Rattle.composite_layout.proofs.Good.{good}
-use Rattle.text_words.specs.Names.{is_name}
 use Rattle.lfs_values.specs.Values.{IsStripeCount}
-use Rattle.lfs_values.specs.MirrorIds.{IsMirrorId, AreMirrorIds}
-use Rattle.lfs_values.specs.FlagLists.{flags_of, flags_text}
+use Rattle.lfs_values.specs.FlagLists.{flags_text}
 use Rattle.lfs_values.proofs.FlagLaws.{flags_takes, spelled_good}
-use Rattle.lfs_values.specs.declared.cause.Cause.{Cause}
 use Rattle.lfs_values.specs.declared.cause.Cause.TheVariants as causes
 use Rattle.lfs_words.specs.declared.command.SplitTo.{SplitTo}
 use Rattle.lfs_words.specs.declared.command.SplitTo.TheVariants as places
@@ -28,13 +25,12 @@ use Rattle.lfs_words.specs.declared.asked.Asked.{Asked}
 use Rattle.lfs_words.specs.declared.asked.Asked.TheVariants as asks
 use Rattle.lfs_words.specs.declared.parts.Draft.{Draft}
 use Rattle.lfs_words.specs.Options.{ended_mirrors}
-use Rattle.lfs_words.specs.Parts.{◌>>=◌, parts_of}
-use Rattle.lfs_words.specs.Checking.{expanded, mirror_of, unless, spec_of, alone, other_file, checked_to, checked_split, checked_delete, checked_change, checked_extend_by, checked}
+use Rattle.lfs_words.specs.Checking.{expanded, unless, spec_of, alone, other_file, checked_to, checked_split, checked_delete, checked_change, checked_extend_by, checked}
 use Rattle.lfs_words.specs.Goodness.{IsGoodAsk}
 use Rattle.lfs_words.specs.Grammar.{bare, Spells}
-use Rattle.lfs_words.proofs.Binding.{if_any, if_bound, if_ok_at}
+use Rattle.lfs_words.proofs.Binding.{if_bound, if_ok_at}
 use Rattle.lfs_words.proofs.Expanding.{asked_all}
-use Rattle.lfs_words.proofs.Saying.{Said, SaidPart, SaidAsk, SaidDraft, SaidMirrors, SaidTo, IsSaidChange, said_items, said_bare, said_mirrors, said_parts, some_parts}
+use Rattle.lfs_words.proofs.Saying.{Said, SaidPart, SaidAsk, SaidDraft, SaidTo, said_items, said_bare, said_mirrors, said_parts, some_parts}
 use Rattle.lfs_words.specs.Facts.{IsName, IsSpecOf, IsSplitOf, IsSound}
 
 -- ---- specs

@@ -1,5 +1,5 @@
 -- What is known of each command that some words spell.
-use Rattle.std.specs.Prelude.{◌≡◌, ◌≢◌, ℕ, ◌<◌, ◌≤◌, ◌^◌, true, List, length, Option, Some, None, IfSome}
+use Rattle.std.specs.Prelude.{◌≡◌, ◌≢◌, ℕ, ◌<◌, ◌≤◌, ◌^◌, true, List, length, IfSome}
 use Rattle.composite_layout.specs.FlagChanges.{AreFlagSets}
 use Rattle.composite_layout.specs.declared.spec.MirrorSpec.{MirrorSpec}
 use Rattle.composite_layout.specs.Specs.{IsSpec}

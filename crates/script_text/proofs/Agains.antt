@@ -21,7 +21,6 @@ use Rattle.object_target.specs.declared.fail.FailKind.{FailKind}
 use Rattle.object_target.specs.declared.fail.FailKind.TheVariants as kinds
 use Rattle.script_values.specs.declared.command.Command.{Command}
 use Rattle.script_values.specs.declared.command.Command.TheVariants as commands
-use Rattle.script_values.specs.Commands.{IsCommand}
 use Rattle.script_values.specs.Scripts.{IsFail, is_same_call, all_commands}
 use Rattle.script_values.specs.Texts as texts
 use Rattle.script_values.proofs.RunWordLaws.{text_again, hex_again}
@@ -38,10 +37,11 @@ use Rattle.script_text.specs.declared.state.Part.{Part}
 use Rattle.script_text.specs.declared.state.State.{State}
 use Rattle.script_text.specs.declared.state.State.TheVariants as state
 use Rattle.script_text.specs.CommandLines.{lfs_by, command_by}
-use Rattle.script_text.specs.Grammar.{IsCommandLine, AreLinesOf, number_words, AreClientLines, FailRange, IsFailRange, calls_of, range_words, fail_words, onto_said, said_in, AreText}
+use Rattle.script_text.specs.Grammar.{AreLinesOf, number_words, AreClientLines, FailRange, IsFailRange, calls_of, range_words, fail_words, onto_said, said_in, AreText}
 use Rattle.script_text.specs.HeadLines.{client_line, is_listed, unlisted, few_fails, kind_of, fails_from, fail_one_line, fail_range_line}
 use Rattle.script_text.specs.Leads.{lead_of, is_comment}
 use Rattle.script_text.specs.Slots.{number_in, object_in, byte_in, nothing_in}
+use Rattle.script_text.specs.SoFar.{Heard}
 use Rattle.script_text.specs.Step.{first_client, next_client, with_command, count_of, few_clients, few_commands, said, words_line, as_text, line_of}
 use Rattle.script_text.specs.TextLines.{Line}
 use Rattle.script_text.specs.Wholes.{all_of}
@@ -133,25 +133,30 @@ lfs_again targets most line command h =
     let first = lfs_begins h.2.form h.2.rest line h.2.stand in
     (verbs.Lfs, first.0, first.1, ap lfs_by (ap (read_of most) (sym first.1) ∙ read))
 
-pub command_again : (targets most clients : ℕ) (line : Words) (command : Command) → targets ≤ 64 → clients ≤ 16 → IsCommandLine most line command → IsCommand most targets clients command
+evict_again : (targets most n : ℕ) (line : Words) (client : ℕ) → n < 2 ^ 64 → line ≡ codes "evict" ∷ decimal n ∷ [] → client ≡ min n 255
+    → (verb : Verb) × (behind : Words) × (line ≡ verb_text verb ∷ behind) × (command_by targets most verb (verb_text verb ∷ behind) behind ≡ Ok (commands.Evict client))
+evict_again targets most n line client small l c =
+    (verbs.Evict, decimal n ∷ [], l, rw (from_again 0 (2 ^ 64 - 1) n (omega arith) (omega arith) (omega arith)) (ap (λ (m : ℕ). ok_command (commands.Evict m)) (sym c)))
+
+pub command_again : (targets most : ℕ) (line : Words) (command : Command) → targets ≤ 64 → Heard targets most line command
     → (verb : Verb) × (behind : Words) × (line ≡ verb_text verb ∷ behind) × (command_by targets most verb (verb_text verb ∷ behind) behind ≡ Ok command)
-command_again targets most clients line (commands.Read name offset len) few small l c =
-    (verbs.Read, name ∷ decimal offset ∷ decimal len ∷ [], l, rw (c.0, from_again 0 268435456 offset (omega arith) (omega arith) c.1, from_again 1 1048576 len (omega arith) c.2.0 c.2.1) refl)
-command_again targets most clients line (commands.Write name offset bytes) few small l c =
-    (verbs.Write, name ∷ decimal offset ∷ text_of_bytes bytes ∷ [], l, rw (c.0, from_again 0 (2 ^ 40) offset (omega arith) (omega arith) c.1, text_again 1 1048576 bytes c.3 c.2.0 c.2.1 (omega arith)) refl)
-command_again targets most clients line (commands.Truncate name size) few small l c =
-    (verbs.Truncate, name ∷ decimal size ∷ [], l, rw (c.0, from_again 0 (2 ^ 40) size (omega arith) (omega arith) c.1) refl)
-command_again targets most clients line (commands.Lfs command) few small l c = lfs_again targets most line command l
-command_again targets most clients line (commands.Evict client) few small l c =
-    let low = c.0 in
-    let high = c.1 in
-    let kept : min client 255 ≡ client = omega arith in
-    (verbs.Evict, decimal client ∷ [], l, rw (from_again 0 (2 ^ 64 - 1) client (omega arith) (omega arith) (omega arith)) (ap (λ (n : ℕ). ok_command (commands.Evict n)) kept))
-command_again targets most clients line (commands.Rot object offset byte) few small l c =
+command_again targets most line (commands.Read name offset len) few h =
+    let c = h.1 in
+    (verbs.Read, name ∷ decimal offset ∷ decimal len ∷ [], h.0, rw (c.0, from_again 0 268435456 offset (omega arith) (omega arith) c.1, from_again 1 1048576 len (omega arith) c.2.0 c.2.1) refl)
+command_again targets most line (commands.Write name offset bytes) few h =
+    let c = h.1 in
+    (verbs.Write, name ∷ decimal offset ∷ text_of_bytes bytes ∷ [], h.0, rw (c.0, from_again 0 (2 ^ 40) offset (omega arith) (omega arith) c.1, text_again 1 1048576 bytes c.3 c.2.0 c.2.1 (omega arith)) refl)
+command_again targets most line (commands.Truncate name size) few h =
+    let c = h.1 in
+    (verbs.Truncate, name ∷ decimal size ∷ [], h.0, rw (c.0, from_again 0 (2 ^ 40) size (omega arith) (omega arith) c.1) refl)
+command_again targets most line (commands.Lfs command) few h = lfs_again targets most line command h.0
+command_again targets most line (commands.Evict client) few h = evict_again targets most h.0 line client h.1 h.2 h.3
+command_again targets most line (commands.Rot object offset byte) few h =
+    let c = h.1 in
     let high = c.1 in (
       verbs.Rot,
       object_text object ∷ decimal offset ∷ hex byte ∷ [],
-      l,
+      h.0,
       bind (object_in 2 targets (object_text object ∷ decimal offset ∷ hex byte ∷ [])) (λ o. number_in 3 0 268435455 o.1 >>= λ p. byte_in 4 p.1 >>= λ b. nothing_in 5 b.1 >>= λ u. ok_command (commands.Rot o.0 p.0 b.0)) (object, decimal offset ∷ hex byte ∷ [])
           (Ok (commands.Rot object offset byte)) (object_again 2 targets object (decimal offset ∷ hex byte ∷ []) few c.0.0 c.0.1 c.0.2)
           (rw (from_again 0 268435455 offset (omega arith) (omega arith) (omega arith), hex_again byte c.2) refl),
@@ -171,13 +176,13 @@ make_part head clients = record { head = head; clients = clients }
 part_same : (part : Part) (head : Head) (clients : List (List Command)) → part.head ≡ head → part.clients ≡ clients → part ≡ record { head = head; clients = clients }
 part_same part head clients e f = ap (λ (h : Head). make_part h part.clients) e ∙ ap (make_part head) f
 
-or_false : {a b : Bool} → a ≡ false → b ≡ false → (a || b) ≡ false
+pub or_false : {a b : Bool} → a ≡ false → b ≡ false → (a || b) ≡ false
 or_false {a} {b} e f = rw (e, f) refl
 
 other_number : (a b : ℕ) → eqb a b ≡ false → a ≡ b → ⊥
 other_number a b f e = let t : true ≡ false = sym (eq-eqb a b e) ∙ f in absurd cc
 
-kind_again : (kind : FailKind) → kind_of (texts.kind_word kind) ≡ Some kind
+pub kind_again : (kind : FailKind) → kind_of (texts.kind_word kind) ≡ Some kind
 kind_again kinds.Refused = refl
 kind_again kinds.Lost = refl
 
@@ -332,10 +337,9 @@ with_commands body cs = record { head = body.head; done = body.done; own = body.
 body_same : (body : Body) (own : List Command) (n : ℕ) → own ≡ body.own → n ≡ body.commands → ok_state (state.Commands body) ≡ ok_state (state.Commands (record { head = body.head; done = body.done; own = own; commands = n }))
 body_same body own n e f = rw (e, f) refl
 
-command_line_again : (body : Body) (clients : ℕ) (line : Words) (command : Command) → body.head.targets ≤ 64 → clients ≤ 16 → IsCommandLine body.head.most line command → IsCommand body.head.most body.head.targets clients command → body.commands < 4096
-    → says_one (state.Commands body) line ≡ Ok (state.Commands (with_command body command))
-command_line_again body clients line command few small l c room =
-    let k = command_again body.head.targets body.head.most clients line command few small l c in
+command_line_again : (body : Body) (line : Words) (command : Command) → body.head.targets ≤ 64 → Heard body.head.targets body.head.most line command → body.commands < 4096 → says_one (state.Commands body) line ≡ Ok (state.Commands (with_command body command))
+command_line_again body line command few h room =
+    let k = command_again body.head.targets body.head.most line command few h in
     let s = state.Commands body in
     let t = state.Commands (with_command body command) in
     let one : says_one s (verb_text k.0 ∷ k.1) ≡ Ok t =
@@ -344,16 +348,15 @@ command_line_again body clients line command few small l c room =
     ∙ ap (λ (r : Result Command LineError). r >>= λ x. ok_state (state.Commands (with_command body x))) k.3) in
     ap (says_one s) k.2 ∙ one
 
-commands_again : (body : Body) (clients : ℕ) (lines : List Words) (cs : List Command) → body.head.targets ≤ 64 → clients ≤ 16 → AreLinesOf (IsCommandLine body.head.most) lines cs
-    → AllByRecursion (IsCommand body.head.most body.head.targets clients) cs → body.commands + length cs ≤ 4096 → says (state.Commands body) lines ≡ Ok (state.Commands (with_commands body cs))
-commands_again body clients lines [] few small l c room =
+commands_again : (body : Body) (lines : List Words) (cs : List Command) → body.head.targets ≤ 64 → AreLinesOf (Heard body.head.targets body.head.most) lines cs → body.commands + length cs ≤ 4096 → says (state.Commands body) lines ≡ Ok (state.Commands (with_commands body cs))
+commands_again body lines [] few l room =
     ap (says (state.Commands body)) l ∙ body_same body (body.own ++ []) (body.commands + 0) (append-nil body.own) (add-zero body.commands)
-commands_again body clients lines (command ∷ cs) few small l c room =
+commands_again body lines (command ∷ cs) few l room =
     let t = state.Commands (with_commands body (command ∷ cs)) in
     let own : (body.own ++ command ∷ []) ++ cs ≡ body.own ++ command ∷ cs = append_assoc body.own (command ∷ []) cs in
     let count : (body.commands + 1) + length cs ≡ body.commands + length (command ∷ cs) = omega arith in
-    let rest = commands_again (with_command body command) clients l.1 cs few small l.4 c.1 (omega arith) in
-    ap (says (state.Commands body)) l.2 ∙ says_first (state.Commands body) (state.Commands (with_command body command)) t l.0 l.1 (command_line_again body clients l.0 command few small l.3 c.0 (omega arith))
+    let rest = commands_again (with_command body command) l.1 cs few l.4 (omega arith) in
+    ap (says (state.Commands body)) l.2 ∙ says_first (state.Commands body) (state.Commands (with_command body command)) t l.0 l.1 (command_line_again body l.0 command few l.3 (omega arith))
     (rest ∙ ap (λ (os : List Command). ok_state (state.Commands (record { head = body.head; done = body.done; own = os; commands = (body.commands + 1) + length cs }))) own
     ∙ ap (λ (n : ℕ). ok_state (state.Commands (record { head = body.head; done = body.done; own = body.own ++ command ∷ cs; commands = n }))) count)
 
@@ -367,10 +370,10 @@ next_again body room =
     (ap (λ (r : Result (Unit {0}) LineError). r >>= λ _. client_line (count_of body + 1) (decimal (count_of body + 1) ∷ []) >>= λ _. ok_state (state.Commands (next_client body))) (clients_room (count_of body) room)
     ∙ ap (λ (r : Result (Unit {0}) LineError). r >>= λ _. ok_state (state.Commands (next_client body))) (client_line_again (count_of body + 1) (omega arith)))
 
-more_again : (body : Body) (number clients : ℕ) (lines : List Words) (rest : List (List Command)) → body.head.targets ≤ 64 → clients ≤ 16 → number ≡ count_of body + 1 → count_of body + length rest ≤ 16 → AreClientLines (IsCommandLine body.head.most) number lines rest
-    → AllByRecursion (AllByRecursion (IsCommand body.head.most body.head.targets clients)) rest → body.commands + length (all_commands rest) ≤ 4096 → says (state.Commands body) lines ≡ Ok (state.Commands (with_clients body rest))
-more_again body number clients lines [] few small n room l c total = ap (says (state.Commands body)) l
-more_again body number clients lines (own ∷ rest) few small n room l c total =
+more_again : (body : Body) (number : ℕ) (lines : List Words) (rest : List (List Command)) → body.head.targets ≤ 64 → number ≡ count_of body + 1 → count_of body + length rest ≤ 16 → AreClientLines (Heard body.head.targets body.head.most) number lines rest
+    → body.commands + length (all_commands rest) ≤ 4096 → says (state.Commands body) lines ≡ Ok (state.Commands (with_clients body rest))
+more_again body number lines [] few n room l total = ap (says (state.Commands body)) l
+more_again body number lines (own ∷ rest) few n room l total =
     let count = length-append own (all_commands rest) in
     let done = length-append body.done (body.own ∷ []) in
     let next = next_client body in
@@ -379,8 +382,8 @@ more_again body number clients lines (own ∷ rest) few small n room l c total =
     let whole : lines ≡ number_words (codes "client") (count_of body + 1) ∷ (l.0 ++ l.1) = l.2 ∙ ap (λ (w : Words). w ∷ (l.0 ++ l.1)) first in
     ap (says (state.Commands body)) whole
     ∙ says_first (state.Commands body) (state.Commands next) (state.Commands (with_clients after_own rest)) (number_words (codes "client") (count_of body + 1)) (l.0 ++ l.1) (next_again body (omega arith))
-    (says_both (state.Commands next) (state.Commands after_own) (state.Commands (with_clients after_own rest)) l.0 l.1 (commands_again next clients l.0 own few small l.3 c.0 (omega (arith, count)))
-    (more_again after_own (number + 1) clients l.1 rest few small (omega (arith, done)) (omega (arith, done)) l.4 c.1 (omega (arith, count))))
+    (says_both (state.Commands next) (state.Commands after_own) (state.Commands (with_clients after_own rest)) l.0 l.1 (commands_again next l.0 own few l.3 (omega (arith, count)))
+    (more_again after_own (number + 1) l.1 rest few (omega (arith, done)) (omega (arith, done)) l.4 (omega (arith, count))))
 
 with_all : (body : Body) (rest : List (List Command)) → (with_clients body rest).done ++ (with_clients body rest).own ∷ [] ≡ (body.done ++ body.own ∷ []) ++ rest
 with_all body [] = sym (append-nil (body.done ++ body.own ∷ []))
@@ -390,12 +393,11 @@ with_head : (body : Body) (rest : List (List Command)) → (with_clients body re
 with_head body [] = refl
 with_head body (own ∷ rest) = with_head (with_commands (next_client body) own) rest
 
--- the clients of a script behind its head
-pub clients_again : (head : Head) (lines : List Words) (clients : List (List Command)) → head.targets ≤ 64 → length clients ≤ 16 → 1 ≤ length clients → AreClientLines (IsCommandLine head.most) 1 lines clients
-    → AllByRecursion (AllByRecursion (IsCommand head.most head.targets (length clients))) clients → length (all_commands clients) ≤ 4096
+-- the clients behind a head
+pub clients_again : (head : Head) (lines : List Words) (clients : List (List Command)) → head.targets ≤ 64 → length clients ≤ 16 → 1 ≤ length clients → AreClientLines (Heard head.targets head.most) 1 lines clients → length (all_commands clients) ≤ 4096
     → (body : Body) × (says (state.Fails head) lines ≡ Ok (state.Commands body)) × (all_of body ≡ record { head = head; clients = clients })
-clients_again head lines [] few small some l c total = absurd (omega arith)
-clients_again head lines (own ∷ rest) few small some l c total =
+clients_again head lines [] few small some l total = absurd (omega arith)
+clients_again head lines (own ∷ rest) few small some l total =
     let count = length-append own (all_commands rest) in
     let start = first_client head in
     let after_own = with_commands start own in
@@ -406,7 +408,7 @@ clients_again head lines (own ∷ rest) few small some l c total =
       ap (says (state.Fails head)) l.2
           ∙ says_first (state.Fails head) (state.Commands start) (state.Commands body) (number_words (codes "client") 1) (l.0 ++ l.1)
           (lead_says (state.Fails head) (state.Commands start) leads.Client (codes "client") (decimal 1 ∷ []) lead_words.4 (ap (λ (r : Result (Unit {0}) LineError). r >>= λ _. ok_state (state.Commands start)) (client_line_again 1 (omega arith))))
-          (says_both (state.Commands start) (state.Commands after_own) (state.Commands body) l.0 l.1 (commands_again start (suc (length rest)) l.0 own few small l.3 c.0 (omega (arith, count)))
-          (more_again after_own 2 (suc (length rest)) l.1 rest few small refl (omega arith) l.4 c.1 (omega (arith, count)))),
+          (says_both (state.Commands start) (state.Commands after_own) (state.Commands body) l.0 l.1 (commands_again start l.0 own few l.3 (omega (arith, count)))
+          (more_again after_own 2 l.1 rest few refl (omega arith) l.4 (omega (arith, count)))),
       part_same (all_of body) head (own ∷ rest) same all,
     )

@@ -14,22 +14,16 @@ use Rattle.lfs_words.specs.Reading.{read_of}
 use Rattle.lfs_words.proofs.Answering.{found}
 use Rattle.script_values.specs.declared.command.Command.{Command}
 use Rattle.script_values.specs.declared.command.Command.TheVariants as commands
-use Rattle.script_values.specs.Commands.{IsCommand}
 use Rattle.script_values.specs.RunWords.{bytes_from}
 use Rattle.script_values.proofs.RunWordLaws.{IsFound, from_takes}
 use Rattle.script_text.specs.declared.error.LineError.{LineError}
 use Rattle.script_text.specs.declared.lead.Verb.{Verb}
 use Rattle.script_text.specs.declared.lead.Verb.TheVariants as verbs
 use Rattle.script_text.specs.CommandLines.{read_line, write_line, truncate_line, evict_line, rot_line, lfs_by, command_by}
-use Rattle.script_text.specs.Grammar.{IsCommandLine}
 use Rattle.script_text.specs.Slots.{name_in, number_in, object_in, byte_in, bytes_in, nothing_in}
+use Rattle.script_text.specs.SoFar.{Heard}
 use Rattle.script_text.proofs.LeadLaws.{verb_text}
 use Rattle.script_text.proofs.SlotLaws.{through, first_takes, nothing_takes, number_takes, name_takes, object_takes}
-
--- the words spell the command, and it is within its limits; which clients there are isn't known yet, so an eviction may be of any number
-abbrev pub Heard : ℕ → ℕ → List (List ℕ) → Command → Type 0
-Heard targets most words (commands.Evict client) = (n : ℕ) × (n < 2 ^ 64) × (words ≡ codes "evict" ∷ decimal n ∷ []) × (client ≡ min n 255)
-Heard targets most words command = IsCommandLine most words command × IsCommand most targets 16 command
 
 -- the word in the list is put in
 pub one_more : (a : List ℕ) (x y z : List (List ℕ)) → x ≡ a ∷ y → y ≡ z → x ≡ a ∷ z
@@ -112,7 +106,7 @@ byte_of_digits a b byte (Some h) (Some l) x y e =
     let bottom : l ≡ byte % 16 = omega (arith, is, high.0, low.0) in
     (omega (arith, is, high.0, low.0), rw (high.1, low.1, top, bottom) refl)
 
-byte_takes : (word : List ℕ) (byte : ℕ) → hex_byte word ≡ Some byte → (byte < 256) × (word ≡ hex byte)
+pub byte_takes : (word : List ℕ) (byte : ℕ) → hex_byte word ≡ Some byte → (byte < 256) × (word ≡ hex byte)
 byte_takes [] byte e = absurd cc
 byte_takes (a ∷ []) byte e = absurd cc
 byte_takes (a ∷ b ∷ c ∷ cs) byte e = absurd cc

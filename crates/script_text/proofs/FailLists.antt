@@ -48,7 +48,7 @@ unfolding IsDistinct
 distinct_more [] fail d o = (tt, tt)
 distinct_more (x ∷ xs) fail d o = (all_append (λ y. is_same_call x y ≡ false) xs (fail ∷ []) d.0 (o.0, tt), distinct_more xs fail d.1 o.1)
 
-or_false : (a b : Bool) → (a || b) ≡ false → (a ≡ false) × (b ≡ false)
+pub or_false : (a b : Bool) → (a || b) ≡ false → (a ≡ false) × (b ≡ false)
 or_false true b e = absurd cc
 or_false false b e = (refl, e)
 

@@ -15,7 +15,6 @@ use Rattle.object_target.specs.declared.fail.Fail.{Fail}
 use Rattle.object_target.specs.declared.fail.FailKind.{FailKind}
 use Rattle.object_target.specs.declared.fail.FailKind.TheVariants as kinds
 use Rattle.script_values.specs.declared.command.Command.{Command}
-use Rattle.script_values.specs.Scripts.{ScriptView}
 use Rattle.script_values.specs.Texts as texts
 use Rattle.script_text.specs.declared.error.LineError.{LineError}
 use Rattle.script_text.specs.declared.lead.Lead.{Lead}
@@ -31,9 +30,10 @@ use Rattle.script_text.specs.Grammar.{AreLinesOf, number_words, AreClientLines, 
 use Rattle.script_text.specs.HeadLines.{version_by, version_line, few_targets, targets_line, mirrors_line, is_next, client_line, unlisted, few_fails, kind_of, kind_in, fails_from, fail_one_line, fail_range_line, fail_line}
 use Rattle.script_text.specs.Leads.{lead_of, is_comment}
 use Rattle.script_text.specs.Slots.{number_in, nothing_in}
+use Rattle.script_text.specs.SoFar.{Heard, version_number, head_view, HeadSaid, BodySaid, Stands}
 use Rattle.script_text.specs.Step.{bare_head, counted, with_fails, first_client, next_client, with_command, count_of, few_clients, few_commands, behind_start, behind_version, behind_targets, behind_head, behind_client, said, words_line, as_text, line_of}
 use Rattle.script_text.specs.TextLines.{Line}
-use Rattle.script_text.proofs.CommandLaws.{Heard, heard, one_more, behind_word}
+use Rattle.script_text.proofs.CommandLaws.{heard, one_more, behind_word}
 use Rattle.script_text.proofs.FailLists.{all_append}
 use Rattle.script_text.proofs.Keeps.{okay, ok_same}
 use Rattle.script_text.proofs.LeadLaws.{verb_text, lead_takes}
@@ -48,11 +48,6 @@ number_line_takes : (word : List ℕ) (place least most : ℕ) (words : Words) (
 number_line_takes word place least most words p u a b =
     let number = number_takes 2 least most words p a in
     behind_word word words _ (one_more (decimal p.0) words p.1 [] number.words_are (nothing_takes place p.1 u b))
-
--- the number of a version
-abbrev pub version_number : Version → ℕ
-version_number versions.One = 1
-version_number versions.Two = 2
 
 ne_from : (n : ℕ) → eqb n 1 ≡ false → n ≡ 1 → ⊥
 ne_from n f e = let t : true ≡ false = sym (eq-eqb n 1 e) ∙ f in absurd cc
@@ -94,7 +89,7 @@ client_said next words u e =
 
 -- ---- lines of calls that fail
 
-kind_chain : (word : List ℕ) (kind : FailKind) → kind_of word ≡ Some kind → word ≡ texts.kind_word kind
+pub kind_chain : (word : List ℕ) (kind : FailKind) → kind_of word ≡ Some kind → word ≡ texts.kind_word kind
 kind_chain word kind e =
     cond_both (bytes_eq word (codes "refused")) (Some kinds.Refused) _ (λ o. o ≡ Some kind → word ≡ texts.kind_word kind)
     (λ t f. let same : kinds.Refused ≡ kind = cc in (bytes_eq-Decides word (codes "refused")).0 t ∙ ap texts.kind_word same)
@@ -169,14 +164,6 @@ range_said targets fails these words e =
 
 -- ---- heads
 
--- a head, and no client
-abbrev pub head_view : Head → ScriptView
-head_view head = record { most = head.most; targets = head.targets; fails = head.fails; clients = [] }
-
-abbrev pub HeadSaid : Version → Head → List Words → Type 0
-HeadSaid versions.One head lines = IsHeadOfOne (head_view head) lines
-HeadSaid versions.Two head lines = IsHeadOfTwo (head_view head) lines
-
 one_more_fail : (head : Head) (lines : List Words) (fails : List Fail) (words : Words) → IsHeadOfOne (head_view head) lines → OneSaid head.fails fails words → IsHeadOfOne (head_view (with_fails head fails)) (lines ++ words ∷ [])
 one_more_fail head lines fails words h o =
     let mapped : map fail_words fails ≡ map fail_words head.fails ++ fail_words o.fail ∷ [] = ap (map fail_words) o.these_are ∙ map-append fail_words head.fails (o.fail ∷ []) in
@@ -237,21 +224,6 @@ clients_more R number next lines (own ∷ clients) n h =
     (h.0, h.1 ++ number_words (codes "client") next ∷ [], whole, h.3, clients_more R (number + 1) next h.1 clients (omega arith) h.4)
 
 -- ---- states
-
-pub record BodySaid (body : Body) (lines : List Words) : Type 0 where
-  pub front : List Words
-  pub back : List Words
-  pub whole : lines ≡ front ++ back
-  pub head : HeadSaid body.head.version body.head front
-  pub clients : AreClientLines (Heard body.head.targets body.head.most) 1 back (body.done ++ body.own ∷ [])
-
--- the lines lead to the state
-abbrev pub Stands : State → List Words → Type 0
-Stands state.Start lines = lines ≡ []
-Stands (state.Version version) lines = lines ≡ number_words (codes "flr-script") (version_number version) ∷ []
-Stands (state.Targets targets) lines = lines ≡ number_words (codes "flr-script") 2 ∷ number_words (codes "targets") targets ∷ []
-Stands (state.Fails head) lines = HeadSaid head.version head lines
-Stands (state.Commands body) lines = BodySaid body lines
 
 onto_lines : (lines : List Words) (front : List Words) (line other : Words) → lines ≡ front → line ≡ other → lines ++ line ∷ [] ≡ front ++ other ∷ []
 onto_lines lines front line other e f = rw (e, f) refl

@@ -23,10 +23,11 @@ use Rattle.script_text.specs.CommandLines.{command_by}
 use Rattle.script_text.specs.Keeping.{IsCountOfTargets, IsGoodHead, IsGoodCommand, IsGoodBody, IsGood, IsGoodPart}
 use Rattle.script_text.specs.Leads.{lead_of, is_comment}
 use Rattle.script_text.specs.Slots.{number_in, nothing_in}
+use Rattle.script_text.specs.SoFar.{Heard}
 use Rattle.script_text.specs.Step.{bare_head, counted, with_fails, first_client, next_client, with_command, count_of, few_clients, few_commands, behind_start, behind_version, behind_targets, behind_head, behind_client, said, words_line, as_text, line_of}
 use Rattle.script_text.specs.TextLines.{Line}
 use Rattle.script_text.specs.Wholes.{all_of}
-use Rattle.script_text.proofs.CommandLaws.{Heard, heard}
+use Rattle.script_text.proofs.CommandLaws.{heard}
 use Rattle.script_text.proofs.FailLists.{length-fails_from, all_append, are_fails, distinct_range}
 use Rattle.script_text.proofs.LeadLaws.{verb_text, lead_takes}
 use Rattle.script_text.proofs.SlotLaws.{bound, through, number_takes}

@@ -74,7 +74,7 @@ pub record IsPlain (words : Words) : Type 0 where
   pub are_words : AreWords words
   pub says : (rest : List Words) → onto_said words rest ≡ words ∷ rest
 
-abbrev line : Words → Line
+abbrev pub line : Words → Line
 line words = record { text = spaced words; ended = true }
 
 byte_text : (byte : ℕ) → is_graphic byte ≡ true → (leb 32 byte && leb byte 126) ≡ true
@@ -97,7 +97,7 @@ spaced_text [] h = refl
 spaced_text (word ∷ []) h = graphic_text word (word_graphic word h.0)
 spaced_text (word ∷ next ∷ words) h = text_append word (32 ∷ spaced (next ∷ words)) (graphic_text word (word_graphic word h.0)) (spaced_text (next ∷ words) h.1)
 
-plain_text : (words : Words) → IsPlain words → as_text (line words) ≡ Ok tt
+pub plain_text : (words : Words) → IsPlain words → as_text (line words) ≡ Ok tt
 plain_text words h = rw (spaced_text words h.are_words) refl
 
 plain_lines : (all : List Words) → AllByRecursion IsPlain all → lines_in (text_of (map spaced all)) ≡ map line all
@@ -106,18 +106,18 @@ plain_lines (words ∷ all) h =
     ap lines_in (append_assoc (spaced words) (10 ∷ []) (text_of (map spaced all))) ∙ lines-first (spaced words) (text_of (map spaced all)) (spaced_lacks words h.0.are_words)
     ∙ ap (λ (ls : List Line). line words ∷ ls) (plain_lines all h.1)
 
-plain_said : (all : List Words) → AllByRecursion IsPlain all → said_in (map line all) ≡ all
+pub plain_said : (all : List Words) → AllByRecursion IsPlain all → said_in (map line all) ≡ all
 plain_said [] h = refl
 plain_said (words ∷ all) h =
     ap (λ (ws : Words). onto_said ws (said_in (map line all))) (words_of-spaced words h.0.are_words) ∙ h.0.says (said_in (map line all)) ∙ ap (λ (ls : List Words). words ∷ ls) (plain_said all h.1)
 
-plain_are_text : (all : List Words) → AllByRecursion IsPlain all → AreText (map line all)
+pub plain_are_text : (all : List Words) → AllByRecursion IsPlain all → AreText (map line all)
 plain_are_text [] h = tt
 plain_are_text (words ∷ all) h = (plain_text words h.0, plain_are_text all h.1)
 
 -- ---- the printed lines are such lines
 
-number_plain : (word : List ℕ) (n : ℕ) → IsWord word → ((rest : List Words) → onto_said (number_words word n) rest ≡ number_words word n ∷ rest) → IsPlain (number_words word n)
+pub number_plain : (word : List ℕ) (n : ℕ) → IsWord word → ((rest : List Words) → onto_said (number_words word n) rest ≡ number_words word n ∷ rest) → IsPlain (number_words word n)
 number_plain word n w s = record { are_words = (w, (decimal_word n, tt)); says = s }
 
 kind_is_word : (kind : FailKind) → IsWord (texts.kind_word kind)

@@ -55,7 +55,7 @@ run_by_form : (word : List ℕ) (run : ClientRun) → IsRunWord word run → ((r
 run_by_form word run h (inl one) = one_by word run h one.0 one.1
 run_by_form word run h (inr many) = many_by word run h many
 
-runs_again : (place : ℕ) (words : List (List ℕ)) (runs : List ClientRun) → AreRunWords words runs → runs_in place words ≡ Ok runs
+pub runs_again : (place : ℕ) (words : List (List ℕ)) (runs : List ClientRun) → AreRunWords words runs → runs_in place words ≡ Ok runs
 runs_again place words [] h = ap (runs_in place) h
 runs_again place words (run ∷ runs) h =
     let one = run_by_form h.0 run h.3 h.3.word_is in
@@ -74,7 +74,7 @@ skip_words : (knows : Bool) (words : List (List ℕ)) (rest : List (List (List �
 skip_words knows [] rest h = (refl, h)
 skip_words knows (word ∷ words) rest h = skip_by knows word words rest (is_comment word) h
 
-skips_again : (knows : Bool) (at : ℕ) (lines : List Line) → AreText lines → said_in lines ≡ [] → reads (skipped_line knows) at tt lines ≡ Ok tt
+pub skips_again : (knows : Bool) (at : ℕ) (lines : List Line) → AreText lines → said_in lines ≡ [] → reads (skipped_line knows) at tt lines ≡ Ok tt
 skips_again knows at [] text h = refl
 skips_again knows at (line ∷ lines) text h =
     let one = skip_words knows (words_of line.text) (said_in lines) h in

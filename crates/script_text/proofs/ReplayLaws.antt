@@ -87,7 +87,7 @@ run_takes_by word run None c e =
     record { client = t.0; some = omega arith; few = omega arith; word_is = inl (t.1, t.2) }
 run_takes_by word run (Some parts) c e = by_times word run parts (cut_takes 42 word parts.0 parts.1 c).0 (number_from 1 (2 ^ 32 - 1) parts.1) refl e
 
-run_takes : (word : List ℕ) (run : ClientRun) → run_of word ≡ Some run → IsRunWord word run
+pub run_takes : (word : List ℕ) (run : ClientRun) → run_of word ≡ Some run → IsRunWord word run
 unfolding run_of
 run_takes word run e = run_takes_by word run (cut_of 42 word) refl e
 
@@ -128,7 +128,7 @@ skip_by knows at line lines t (Ok v) s e k =
     let rest = k v e in
     ((is, rest.0), nothing_said knows (words_of line.text) v f (said_in lines) ∙ rest.1))
 
-all_skip : (knows : Bool) (at : ℕ) (s t : Unit {0}) (lines : List Line) → reads (skipped_line knows) at s lines ≡ Ok t → AreText lines × (said_in lines ≡ [])
+pub all_skip : (knows : Bool) (at : ℕ) (s t : Unit {0}) (lines : List Line) → reads (skipped_line knows) at s lines ≡ Ok t → AreText lines × (said_in lines ≡ [])
 all_skip knows at s t [] e = (tt, refl)
 all_skip knows at s t (line ∷ lines) e = skip_by knows at line lines t (skipped_line knows tt line) refl e (λ u f. all_skip knows (at + 1) u t lines f)
 

@@ -25,11 +25,11 @@ use Rattle.script_text.specs.declared.state.State.TheVariants as state
 use Rattle.script_text.specs.Grammar.{IsCommandLine, AreLinesOf, AreClientLines, IsHeadOfOne, IsHeadOfTwo, Says, onto_said, said_in, AreText, SpellsLines, Spells}
 use Rattle.script_text.specs.Keeping.{IsGood, IsGoodPart}
 use Rattle.script_text.specs.Leads.{is_comment}
+use Rattle.script_text.specs.SoFar.{Heard, HeadSaid, BodySaid}
 use Rattle.script_text.specs.Step.{line_of}
 use Rattle.script_text.specs.TextLines.{Line, lines_in}
 use Rattle.script_text.specs.Wholes.{all_of, ended, part_by, part_of, is_nobody, evicts_nobody_by, evicts_nobody, evictions_in, view_of, limited_by, whole_of, script_of}
-use Rattle.script_text.proofs.CommandLaws.{Heard}
-use Rattle.script_text.proofs.Founds.{Words, HeadSaid, BodySaid, all_stand}
+use Rattle.script_text.proofs.Founds.{Words, all_stand}
 use Rattle.script_text.proofs.Keeps.{good_step, good_all}
 use Rattle.script_text.proofs.SlotLaws.{through}
 
@@ -205,7 +205,7 @@ good_by : (at : ℕ) (s t : State) (line : Line) (lines : List Line) (r : Result
 good_by at s t line lines (Err error) l h e k = absurd cc
 good_by at s t line lines (Ok u) l h e k = k u (good_step s u line h l) e
 
-all_good : (at : ℕ) (s t : State) (lines : List Line) → IsGood s → reads line_of at s lines ≡ Ok t → IsGood t
+pub all_good : (at : ℕ) (s t : State) (lines : List Line) → IsGood s → reads line_of at s lines ≡ Ok t → IsGood t
 all_good at s t [] h e = okay_good s t e h
 all_good at s t (line ∷ lines) h e = good_by at s t line lines (line_of s line) refl h e (λ u g f. all_good (at + 1) u t lines g f)
 
@@ -219,11 +219,11 @@ good_takes lines part (Ok s) r e =
 pub part_good : (lines : List Line) (part : Part) → part_of lines ≡ Ok part → IsGoodPart part
 part_good lines part e = good_takes lines part (reads line_of 0 state.Start lines) refl e
 
-head_says : (version : Version) (part : Part) (front : List Words) → HeadSaid version part.head front → IsHeadOfOne (view_of part) front ⊎ IsHeadOfTwo (view_of part) front
+pub head_says : (version : Version) (part : Part) (front : List Words) → HeadSaid version part.head front → IsHeadOfOne (view_of part) front ⊎ IsHeadOfTwo (view_of part) front
 head_says versions.One part front h = inl (record { most = h.most; lines_are = h.lines_are })
 head_says versions.Two part front h = inr (record { ranges = h.ranges; some = h.some; fails = h.fails; lines_are = h.lines_are })
 
-part_says : (part : Part) (lines : List Line) → PartClients part lines → Says (view_of part) (said_in lines)
+pub part_says : (part : Part) (lines : List Line) → PartClients part lines → Says (view_of part) (said_in lines)
 part_says part lines h =
     record {
       front = h.front;

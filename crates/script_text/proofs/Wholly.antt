@@ -1,6 +1,6 @@
 -- A text that spells a script is read as that script.
 use Rattle.std.proofs.Common.{◌≡◌, ◌≢◌, ℕ, ◌+◌, ◌-◌, ◌^◌, ◌≤◌, Bool, true, false, cond, List, [], ◌∷◌, ◌++◌, length, map, Some, Result, Ok, Err, refl, sym, ap, subst, ◌∙◌, arith, inl, inr}
-use Rattle.std.specs.Prelude.{codes, MatchResult, ◌⊎◌}
+use Rattle.std.specs.Prelude.{codes, min, MatchResult, ◌⊎◌}
 use Rattle.std.specs.Fmt.{decimal}
 use Rattle.std.specs.List.{flat_map, AllByRecursion}
 use Rattle.std.proofs.lemmas.Bool.{le-ltb, ne_eqb, eqb-true}
@@ -20,12 +20,15 @@ use Rattle.script_text.specs.declared.error.ScriptError.TheVariants as errors
 use Rattle.script_text.specs.declared.lead.Lead.TheVariants as leads
 use Rattle.script_text.specs.declared.state.Version.{Version}
 use Rattle.script_text.specs.declared.state.Version.TheVariants as versions
+use Rattle.script_text.specs.declared.state.Head.{Head}
 use Rattle.script_text.specs.declared.state.Part.{Part}
 use Rattle.script_text.specs.declared.state.State.TheVariants as state
 use Rattle.script_text.specs.Answers.{Answers}
 use Rattle.script_text.specs.Grammar.{IsCommandLine, AreLinesOf, number_words, AreClientLines, FailRange, calls_of, range_words, fail_words, IsHeadOfOne, IsHeadOfTwo, onto_said, said_in, SpellsLines, Spells}
 use Rattle.script_text.specs.HeadLines.{version_line, targets_line, mirrors_line}
+use Rattle.script_text.specs.Keeping.{IsGoodHead}
 use Rattle.script_text.specs.Leads.{is_comment}
+use Rattle.script_text.specs.SoFar.{Heard, head_view, HeadSaid}
 use Rattle.script_text.specs.Step.{counted}
 use Rattle.script_text.specs.TextLines.{Line, lines_in}
 use Rattle.script_text.specs.Wholes.{all_of, part_by, part_of, is_nobody, evictions_in, view_of, limited_by, whole_of, script_of}
@@ -37,11 +40,11 @@ use Rattle.script_text.proofs.Together.{IsFine}
 
 -- ---- heads
 
-version_again : (version : Version) (n : ℕ) → version_line (decimal n ∷ []) ≡ Ok version → says_one state.Start (number_words (codes "flr-script") n) ≡ Ok (state.Version version)
+pub version_again : (version : Version) (n : ℕ) → version_line (decimal n ∷ []) ≡ Ok version → says_one state.Start (number_words (codes "flr-script") n) ≡ Ok (state.Version version)
 version_again version n e =
     lead_says state.Start (state.Version version) leads.Script (codes "flr-script") (decimal n ∷ []) lead_words.0 (ap (λ (r : Result Version LineError). r >>= λ v. ok_state (state.Version v)) e)
 
-one_again : version_line (decimal 1 ∷ []) ≡ Ok versions.One
+pub one_again : version_line (decimal 1 ∷ []) ≡ Ok versions.One
 one_again = rw (from_again 1 2 1 (omega arith) (omega arith) (omega arith)) refl
 
 two_again : version_line (decimal 2 ∷ []) ≡ Ok versions.Two
@@ -53,51 +56,89 @@ targets_again targets low high = rw (from_again 1 (2 ^ 64 - 1) targets (omega ar
 mirrors_again : (most : ℕ) → 1 ≤ most → most ≤ 32 → mirrors_line (decimal most ∷ []) ≡ Ok most
 mirrors_again most low high = rw (from_again 1 32 most (omega arith) low high) refl
 
-counted_again : (version : Version) (targets : ℕ) → 1 ≤ targets → targets ≤ 64 → says_one (state.Version version) (number_words (codes "targets") targets) ≡ Ok (counted version targets)
+pub counted_again : (version : Version) (targets : ℕ) → 1 ≤ targets → targets ≤ 64 → says_one (state.Version version) (number_words (codes "targets") targets) ≡ Ok (counted version targets)
 counted_again version targets low high =
     lead_says (state.Version version) (counted version targets) leads.Targets (codes "targets") (decimal targets ∷ []) lead_words.1 (ap (λ (r : Result ℕ LineError). r >>= λ t. ok_state (counted version t)) (targets_again targets low high))
 
-most_again : (targets most : ℕ) → 1 ≤ most → most ≤ 32 → says_one (state.Targets targets) (number_words (codes "mirrors") most) ≡ Ok (state.Fails (head_with versions.Two targets most []))
+pub most_again : (targets most : ℕ) → 1 ≤ most → most ≤ 32 → says_one (state.Targets targets) (number_words (codes "mirrors") most) ≡ Ok (state.Fails (head_with versions.Two targets most []))
 most_again targets most low high =
     lead_says (state.Targets targets) (state.Fails (head_with versions.Two targets most [])) leads.Mirrors (codes "mirrors") (decimal most ∷ []) lead_words.2
     (ap (λ (r : Result ℕ LineError). r >>= λ m. ok_state (state.Fails (head_with versions.Two targets m []))) (mirrors_again most low high))
 
-listed : (script : ScriptView) → IsWellFormed script → AreListed script.targets script.fails
-listed script w = record { targets_few = w.few_targets; few = w.few_fails; each = w.fails; differ = w.calls_differ }
+listed : (head : Head) → IsGoodHead head → AreListed head.targets head.fails
+listed head h = record { targets_few = h.targets.1; few = h.few_fails; each = h.fails; differ = h.differ }
+
+front_one : (targets most : ℕ) (fails : List Fail) (front : List Words) → IsGoodHead (head_with versions.One targets most fails) → IsHeadOfOne (head_view (head_with versions.One targets most fails)) front
+    → says state.Start front ≡ Ok (state.Fails (head_with versions.One targets most fails))
+front_one targets most fails front good h =
+    let start = state.Version versions.One in
+    let bare = state.Fails (head_with versions.One targets 16 []) in
+    let all = state.Fails (head_with versions.One targets 16 fails) in
+    let whole : says state.Start front ≡ Ok all =
+    ap (says state.Start) h.lines_are
+    ∙ says_first state.Start start all (number_words (codes "flr-script") 1) (number_words (codes "targets") targets ∷ map fail_words fails) (version_again versions.One 1 one_again)
+    (says_first start bare all (number_words (codes "targets") targets) (map fail_words fails) (counted_again versions.One targets good.targets.0 good.targets.1) (ones_again targets 16 [] fails (listed (head_with versions.One targets most fails) good))) in
+    whole ∙ ap (λ (m : ℕ). ok_state (state.Fails (head_with versions.One targets m fails))) (sym h.most)
+
+front_two : (targets most : ℕ) (fails : List Fail) (front : List Words) → IsGoodHead (head_with versions.Two targets most fails) → IsHeadOfTwo (head_view (head_with versions.Two targets most fails)) front
+    → says state.Start front ≡ Ok (state.Fails (head_with versions.Two targets most fails))
+front_two targets most fails front good h =
+    let start = state.Version versions.Two in
+    let counted_so = state.Targets targets in
+    let bare = state.Fails (head_with versions.Two targets most []) in
+    let all = state.Fails (head_with versions.Two targets most (flat_map calls_of h.ranges)) in
+    let known : AreListed targets ([] ++ flat_map calls_of h.ranges) = subst (AreListed targets) h.fails (listed (head_with versions.Two targets most fails) good) in
+    let some = good.some_mirrors in
+    let whole : says state.Start front ≡ Ok all =
+    ap (says state.Start) h.lines_are
+    ∙ says_first state.Start start all (number_words (codes "flr-script") 2) (number_words (codes "targets") targets ∷ number_words (codes "mirrors") most ∷ map range_words h.ranges) (version_again versions.Two 2 two_again)
+    (says_first start counted_so all (number_words (codes "targets") targets) (number_words (codes "mirrors") most ∷ map range_words h.ranges) (counted_again versions.Two targets good.targets.0 good.targets.1)
+    (says_first counted_so bare all (number_words (codes "mirrors") most) (map range_words h.ranges) (most_again targets most (omega arith) good.few_mirrors) (ranges_again targets most [] h.ranges h.some known))) in
+    whole ∙ ap (λ (fs : List Fail). ok_state (state.Fails (head_with versions.Two targets most fs))) (sym h.fails)
 
 -- the lines of a head are read as the head
+pub front_again : (version : Version) (targets most : ℕ) (fails : List Fail) (front : List Words) → IsGoodHead (head_with version targets most fails) → HeadSaid version (head_with version targets most fails) front
+    → says state.Start front ≡ Ok (state.Fails (head_with version targets most fails))
+front_again versions.One targets most fails front good h = front_one targets most fails front good h
+front_again versions.Two targets most fails front good h = front_two targets most fails front good h
+
 pub record HeadRead (script : ScriptView) (front : List Words) : Type 0 where
   pub version : Version
   pub read : says state.Start front ≡ Ok (state.Fails (head_with version script.targets script.most script.fails))
 
-front_one : (script : ScriptView) (front : List Words) → IsWellFormed script → IsHeadOfOne script front → HeadRead script front
-front_one script front w h =
-    let start = state.Version versions.One in
-    let bare = state.Fails (head_with versions.One script.targets 16 []) in
-    let all = state.Fails (head_with versions.One script.targets 16 script.fails) in
-    let whole : says state.Start front ≡ Ok all =
-    ap (says state.Start) h.lines_are
-    ∙ says_first state.Start start all (number_words (codes "flr-script") 1) (number_words (codes "targets") script.targets ∷ map fail_words script.fails) (version_again versions.One 1 one_again)
-    (says_first start bare all (number_words (codes "targets") script.targets) (map fail_words script.fails) (counted_again versions.One script.targets w.some_targets w.few_targets) (ones_again script.targets 16 [] script.fails (listed script w))) in
-    record { version = versions.One; read = whole ∙ ap (λ (m : ℕ). ok_state (state.Fails (head_with versions.One script.targets m script.fails))) (sym h.most) }
+head_good : (version : Version) (script : ScriptView) → IsWellFormed script → IsGoodHead (head_with version script.targets script.most script.fails)
+head_good version script w =
+    let some = w.some_mirrors in
+    record { some_mirrors = omega arith; few_mirrors = w.few_mirrors; targets = (w.some_targets, w.few_targets); few_fails = w.few_fails; fails = w.fails; differ = w.calls_differ }
 
-front_two : (script : ScriptView) (front : List Words) → IsWellFormed script → IsHeadOfTwo script front → HeadRead script front
-front_two script front w h =
-    let start = state.Version versions.Two in
-    let counted_so = state.Targets script.targets in
-    let bare = state.Fails (head_with versions.Two script.targets script.most []) in
-    let all = state.Fails (head_with versions.Two script.targets script.most (flat_map calls_of h.ranges)) in
-    let known : AreListed script.targets ([] ++ flat_map calls_of h.ranges) = subst (AreListed script.targets) h.fails (listed script w) in
-    let whole : says state.Start front ≡ Ok all =
-    ap (says state.Start) h.lines_are
-    ∙ says_first state.Start start all (number_words (codes "flr-script") 2) (number_words (codes "targets") script.targets ∷ number_words (codes "mirrors") script.most ∷ map range_words h.ranges) (version_again versions.Two 2 two_again)
-    (says_first start counted_so all (number_words (codes "targets") script.targets) (number_words (codes "mirrors") script.most ∷ map range_words h.ranges) (counted_again versions.Two script.targets w.some_targets w.few_targets)
-    (says_first counted_so bare all (number_words (codes "mirrors") script.most) (map range_words h.ranges) (most_again script.targets script.most w.some_mirrors w.few_mirrors) (ranges_again script.targets script.most [] h.ranges h.some known))) in
-    record { version = versions.Two; read = whole ∙ ap (λ (fs : List Fail). ok_state (state.Fails (head_with versions.Two script.targets script.most fs))) (sym h.fails) }
+head_read : (script : ScriptView) (front : List Words) → IsWellFormed script → IsHeadOfOne script front ⊎ IsHeadOfTwo script front → HeadRead script front
+head_read script front w (inl h) =
+    record { version = versions.One; read = front_again versions.One script.targets script.most script.fails front (head_good versions.One script w) (record { most = h.most; lines_are = h.lines_are }) }
+head_read script front w (inr h) =
+    record { version = versions.Two; read = front_again versions.Two script.targets script.most script.fails front (head_good versions.Two script w) (record { ranges = h.ranges; some = h.some; fails = h.fails; lines_are = h.lines_are }) }
 
-front_again : (script : ScriptView) (front : List Words) → IsWellFormed script → IsHeadOfOne script front ⊎ IsHeadOfTwo script front → HeadRead script front
-front_again script front w (inl h) = front_one script front w h
-front_again script front w (inr h) = front_two script front w h
+-- ---- commands within their limits
+
+line_heard : (most targets clients : ℕ) (line : Words) (command : Command) → clients ≤ 16 → IsCommandLine most line command → IsCommand most targets clients command → Heard targets most line command
+line_heard most targets clients line (commands.Read name offset len) few l c = (l, c)
+line_heard most targets clients line (commands.Write name offset bytes) few l c = (l, c)
+line_heard most targets clients line (commands.Truncate name size) few l c = (l, c)
+line_heard most targets clients line (commands.Lfs command) few l c = (l, c)
+line_heard most targets clients line (commands.Evict client) few l c =
+    let high = c.1 in
+    let kept : client ≡ min client 255 = omega arith in
+    (client, omega arith, l, kept)
+line_heard most targets clients line (commands.Rot object offset byte) few l c = (l, c)
+
+lines_heard : (most targets clients : ℕ) (lines : List Words) (cs : List Command) → clients ≤ 16 → AreLinesOf (IsCommandLine most) lines cs → AllByRecursion (IsCommand most targets clients) cs → AreLinesOf (Heard targets most) lines cs
+lines_heard most targets clients lines [] few l c = l
+lines_heard most targets clients lines (command ∷ cs) few l c = (l.0, l.1, l.2, line_heard most targets clients l.0 command few l.3 c.0, lines_heard most targets clients l.1 cs few l.4 c.1)
+
+clients_heard : (most targets clients number : ℕ) (lines : List Words) (rest : List (List Command)) → clients ≤ 16 → AreClientLines (IsCommandLine most) number lines rest → AllByRecursion (AllByRecursion (IsCommand most targets clients)) rest
+    → AreClientLines (Heard targets most) number lines rest
+clients_heard most targets clients number lines [] few l c = l
+clients_heard most targets clients number lines (own ∷ rest) few l c =
+    (l.0, l.1, l.2, lines_heard most targets clients l.0 own few l.3 c.0, clients_heard most targets clients (number + 1) l.1 rest few l.4 c.1)
 
 -- ---- nobody is evicted who isn't there
 
@@ -180,9 +221,10 @@ pub part_again : (lines : List Line) (script : ScriptView) → SpellsLines lines
 part_again lines script h =
     let w = h.limits.form in
     let says_so = h.says in
-    let f = front_again script says_so.front w says_so.head in
+    let f = head_read script says_so.front w says_so.head in
     let head = head_with f.version script.targets script.most script.fails in
-    let c = clients_again head says_so.back script.clients w.few_targets w.few_clients w.some_clients says_so.clients w.commands w.few_commands in
+    let heard_so = clients_heard script.most script.targets (length script.clients) 1 says_so.back script.clients w.few_clients says_so.clients w.commands in
+    let c = clients_again head says_so.back script.clients w.few_targets w.few_clients w.some_clients heard_so w.few_commands in
     let said_all : says state.Start (said_in lines) ≡ Ok (state.Commands c.0) =
     ap (says state.Start) says_so.whole ∙ says_both state.Start (state.Fails head) (state.Commands c.0) says_so.front says_so.back f.read c.1 in
     let all = all_read 0 state.Start (state.Commands c.0) lines h.text said_all in

@@ -1,5 +1,7 @@
 pub mod Answers
+pub mod Causes
 pub mod CommandLines
+pub mod Forms
 pub mod Grammar
 pub mod HeadLines
 pub mod Keeping
@@ -8,6 +10,7 @@ pub mod Refusals
 pub mod Replays
 pub mod Schedules
 pub mod Slots
+pub mod SoFar
 pub mod Step
 pub mod TextLines
 pub mod Wholes

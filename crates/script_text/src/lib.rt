@@ -7,6 +7,7 @@ mod error;
 mod evictions;
 mod fails;
 mod head_lines;
+mod laws;
 mod lead;
 mod lines;
 mod read;
@@ -20,6 +21,7 @@ mod state;
 mod step;
 
 pub use error::ScriptError;
+pub use laws::{replay_causes, script_causes};
 pub use read::read_script;
 pub use refusal::print_refusal;
 pub use replay::read_replay;
