@@ -1,0 +1,2 @@
+pub mod AtOnceLaws
+pub mod WiderLaws
