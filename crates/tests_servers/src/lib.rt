@@ -6,6 +6,8 @@ mod bytes;
 #[cfg(test)]
 mod calls;
 #[cfg(test)]
+mod files;
+#[cfg(test)]
 mod leases;
 #[cfg(test)]
 mod locks;
