@@ -24,9 +24,10 @@ module _ {X : Type 0} where
 
 -- each object of the components is on one of so many targets
 pub there : (count : ℕ) (cs : List Component) → (list_all (λ (c : Component). list_all (λ (o : ObjectId). nat_lt o.target count) c.objects) cs ≡ true) ↔ ((c : Component) (o : ObjectId) → Contains cs c → Contains c.objects o → o.target < count)
-there count cs =
-    (λ e c o hc ho. ltb-true o.target count (each_passes (λ (p : ObjectId). nat_lt p.target count) c.objects (each_passes (λ (d : Component). list_all (λ (p : ObjectId). nat_lt p.target count) d.objects) cs e c hc) o ho),
-      λ h. all_pass (λ (d : Component). list_all (λ (p : ObjectId). nat_lt p.target count) d.objects) cs (λ c hc. all_pass (λ (p : ObjectId). nat_lt p.target count) c.objects (λ o ho. lt-ltb o.target count (h c o hc ho))))
+there count cs = (
+  λ e c o hc ho. ltb-true o.target count (each_passes (λ (p : ObjectId). nat_lt p.target count) c.objects (each_passes (λ (d : Component). list_all (λ (p : ObjectId). nat_lt p.target count) d.objects) cs e c hc) o ho),
+  λ h. all_pass (λ (d : Component). list_all (λ (p : ObjectId). nat_lt p.target count) d.objects) cs (λ c hc. all_pass (λ (p : ObjectId). nat_lt p.target count) c.objects (λ o ho. lt-ltb o.target count (h c o hc ho))),
+)
 
 each_callable : (limit : ℕ) (ts : List TargetState) → list_all (λ (t : TargetState). nat_lt (next_call t) limit) ts ≡ true → (id : ℕ) (d : TargetState) → next_call d < limit → next_call (unwrap_or (slice_get ts id) d) < limit
 each_callable limit [] e id d h = h
@@ -39,6 +40,7 @@ all_callable limit (t ∷ ts) h = rw (lt-ltb (next_call t) limit (h 0 t refl)) (
 
 -- each target may be called once more
 pub callable : (ts : List TargetState) → (list_all (λ (t : TargetState). nat_lt (next_call t) 4278190080) ts ≡ true) ↔ CanCall ts
-callable ts =
-    (λ e id. each_callable 4278190080 ts e id (new_target id []) (omega arith),
-      λ can. all_callable 4278190080 ts (λ id t e. subst (λ (found : Option TargetState). next_call (unwrap_or found (new_target id [])) < 4278190080) e (can id)))
+callable ts = (
+  λ e id. each_callable 4278190080 ts e id (new_target id []) (omega arith),
+  λ can. all_callable 4278190080 ts (λ id t e. subst (λ (found : Option TargetState). next_call (unwrap_or found (new_target id [])) < 4278190080) e (can id)),
+)

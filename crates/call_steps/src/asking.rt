@@ -1,6 +1,6 @@
 //! What a caller may ask before a step that has conditions.
 
-ghost use Rattle.std.specs.Prelude.{◌≡◌, ◌↔◌, ◌<◌, nat_lt, length, IsTrue};
+ghost use Rattle.std.specs.Prelude.{◌≡◌, ◌↔◌, nat_lt, IsTrue};
 ghost use Rattle.std.specs.List.{list_all};
 ghost use Rattle.flr_base.specs.declared.reply.ObjectId.{ObjectId};
 ghost use Rattle.composite_layout.specs.declared.component.Component.{Component as AComponent};

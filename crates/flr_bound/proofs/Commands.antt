@@ -107,7 +107,7 @@ module _ (client place : ℕ) (s : Servers) where
   lfs_does (lfs.Verify name) = unchanged s 0 s.locks
 
   rots : (object : ObjectId) (offset byte : ℕ) (b : Bool) → Does 0 s (record s { targets = cond b (with_rot object offset byte s.targets) s.targets })
-  rots object offset byte true = uncalled s object.target (after_rot (target_at s.targets object.target) object.number offset byte) refl
+  rots object offset byte true = uncalled s object.target (after_rot (target_at s.targets object.target) object.number offset byte) refl refl
   rots object offset byte false = unchanged s 0 s.locks
 
   once_does : (asked : Command) → OnLeft (Does (stripes_of_command (length s.meta.nexts) asked) s) (at_once client asked place s)

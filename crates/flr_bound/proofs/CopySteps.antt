@@ -68,7 +68,7 @@ module _ (c : CopyView) (s : Servers) where
   -- ---- a copy
 
   fence_call : (x : CopyingView) (o : ObjectId) → Does 0 s (fenced s x o)
-  fence_call x o = called s o.target (after_fence (target_of s o) o.number x.side.layout.generation) _ refl
+  fence_call x o = called s o.target (after_fence (target_of s o) o.number x.side.layout.generation) _ refl refl
 
   fences : (x : CopyingView) (next : ℕ) (o : CopyObject) (a : CallAnswer) → OnLeft (Does 0 s) (fences_object c s x next o a)
   fences x next o answer.Ok = fence_call x o.object
@@ -81,7 +81,7 @@ module _ (c : CopyView) (s : Servers) where
   fences_next x next o answer.Failed = refl
 
   reset_call : (x : CopyingView) (o : ObjectId) → Does 0 s (emptied s x o)
-  reset_call x o = called s o.target (after_reset (target_of s o) o.number x.side.layout.generation) _ refl
+  reset_call x o = called s o.target (after_reset (target_of s o) o.number x.side.layout.generation) _ refl refl
 
   resets : (x : CopyingView) (next : ℕ) (o : CopyObject) (a : CallAnswer) → OnLeft (Does 0 s) (resets_object c s x next o a)
   resets x next o answer.Ok = reset_call x o.object
@@ -102,7 +102,7 @@ module _ (c : CopyView) (s : Servers) where
   settling_next x None size = refl
 
   read_call : (p : Piece) → Does 0 s (piece_read s p)
-  read_call p = called s (object_of p).target (after_read (target_of s (object_of p)) (object_of p).number p.offset (length_of p)) _ refl
+  read_call p = called s (object_of p).target (after_read (target_of s (object_of p)) (object_of p).number p.offset (length_of p)) _ refl refl
 
   takes : (h : Chunk) (p : Piece) (a : CallAnswer) → OnLeft (Does 0 s) (takes_chunk c s h p a)
   takes h p answer.Ok = read_call p
@@ -115,7 +115,7 @@ module _ (c : CopyView) (s : Servers) where
   takes_next h p answer.Failed = refl
 
   put_call : (h : Chunk) (p : Piece) (bytes : List ℕ) → Does 0 s (piece_put s h p bytes)
-  put_call h p bytes = called s (object_of p).target (after_write (target_of s (object_of p)) (object_of p).number p.offset bytes h.copying.side.layout.generation) _ refl
+  put_call h p bytes = called s (object_of p).target (after_write (target_of s (object_of p)) (object_of p).number p.offset bytes h.copying.side.layout.generation) _ refl refl
 
   puts : (h : Chunk) (bytes : List ℕ) (p : Piece) (a : CallAnswer) → OnLeft (Does 0 s) (puts_chunk c s h bytes p a)
   puts h bytes p answer.Ok = put_call h p bytes
@@ -156,7 +156,7 @@ module _ (c : CopyView) (s : Servers) where
   -- ---- a file is taken in
 
   merge_call : (o : ObjectId) (version : ℕ) → Does 0 s (merge_fenced s o version)
-  merge_call o version = called s o.target (after_fence (target_of s o) o.number version) _ refl
+  merge_call o version = called s o.target (after_fence (target_of s o) o.number version) _ refl refl
 
   merge_fencing : (x : ComparingView) (next : ℕ) (o : ObjectId) (a : CallAnswer) → OnLeft (Does 0 s) (merge_fences_object c s x next o a)
   merge_fencing x next o answer.Ok = merge_call o (version_at x next)

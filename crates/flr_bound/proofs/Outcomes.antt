@@ -1,7 +1,7 @@
 -- What a step leaves of the servers: the metadata server as one call at most left it, and the targets called once at most.
-use Rattle.std.proofs.Common.{◌≡◌, ℕ, ◌+◌, ◌≤◌, ◌<◌, List, [], ◌∷◌, ◌++◌, length, set, get_or, ◌⊎◌, inl, inr, sym, ap, ◌∙◌, arith, length-append}
+use Rattle.std.proofs.Common.{◌≡◌, ℕ, ◌+◌, ◌≤◌, ◌<◌, List, [], ◌∷◌, ◌++◌, length, set, get_or, ◌⊎◌, inl, inr, refl, sym, ap, ◌∙◌, arith, length-append}
 use Rattle.std.proofs.lemmas.Bool.{cases_eq, cases_lt}
-use Rattle.std.proofs.lemmas.List.{get_or-set_other, get_or-set_same, set_past}
+use Rattle.std.proofs.lemmas.List.{length-set, get_or-set_other, get_or-set_same, set_past}
 use Rattle.std.proofs.lemmas.Option.{unwrap_or-slice_get}
 use Rattle.object_target.specs.declared.call.CallEntry.{CallEntry}
 use Rattle.object_target.specs.TargetState.{TargetState, new_target, next_call}
@@ -49,10 +49,12 @@ next_widened P Q f (Blocked holder) there h = tt
 
 -- ---- the servers after one step
 
--- numbers of the metadata server rise by no more than one call raises them, and each target is called once at most
+-- numbers of the metadata server rise by no more than one call raises them, each target is called once at most, and the calls that are listed to fail stay
 pub record Does (stripes : ℕ) (old new : Servers) : Type 0 where
   pub meta : AreNumbered old.meta → Grows (most_by_call stripes) old.meta new.meta
   pub calls : (id : ℕ) → next_call (target_at new.targets id) ≤ next_call (target_at old.targets id) + 1
+  pub many : length new.targets ≡ length old.targets
+  pub fails : (id : ℕ) → (target_at new.targets id).fails ≡ (target_at old.targets id).fails
 
 -- a target is as it was, or is the one that was put there
 put_at : (targets : List TargetState) (t id : ℕ) (u : TargetState) → next_call u ≤ next_call (target_at targets t) + 1 → next_call (target_at (set targets t u) id) ≤ next_call (target_at targets id) + 1
@@ -76,35 +78,60 @@ put_at targets t id u once = by (cases_lt t (length targets)) (cases_eq id t)
         let e : next_call (target_at (set targets t u) id) ≡ next_call (target_at targets id) = ap (λ (x : TargetState). next_call x) (found (set targets t u) ∙ get_or-set_other targets t id u none other ∙ sym (found targets)) in
         omega (arith, e)
 
+-- so is whatever is told of a target, where what was put there keeps it
+pub kept_put_at : {X : Type 0} (f : TargetState → X) (targets : List TargetState) (t id : ℕ) (u : TargetState) → f u ≡ f (target_at targets t) → f (target_at (set targets t u) id) ≡ f (target_at targets id)
+kept_put_at f targets t id u keeps = by (cases_lt t (length targets)) (cases_eq id t)
+  where
+    none : TargetState
+    none = new_target id []
+
+    found : (ts : List TargetState) → target_at ts id ≡ get_or ts id none
+    found ts = unwrap_or-slice_get ts id none
+
+    by : (t < length targets) ⊎ (length targets ≤ t) → (id ≡ t) ⊎ (id ≡ t → ⊥) → f (target_at (set targets t u) id) ≡ f (target_at targets id)
+    by (inr past) same = ap (λ (ts : List TargetState). f (target_at ts id)) (set_past targets t u past)
+    by (inl less) (inl same) =
+        ap (λ (i : ℕ). f (target_at (set targets t u) i)) same
+        ∙ ap f (unwrap_or-slice_get (set targets t u) t (new_target t []) ∙ get_or-set_same targets t u (new_target t []) less)
+        ∙ keeps
+        ∙ ap (λ (i : ℕ). f (target_at targets i)) (sym same)
+    by (inl less) (inr other) = ap f (found (set targets t u) ∙ get_or-set_other targets t id u none other ∙ sym (found targets))
+
 module _ (s : Servers) where
   no_calls : (id : ℕ) → next_call (target_at s.targets id) ≤ next_call (target_at s.targets id) + 1
   no_calls id = omega arith
 
   -- extent locks alone change, or nothing
   pub unchanged : (stripes : ℕ) (locks : List Lock) → Does stripes s (record s { locks = locks })
-  unchanged stripes locks = record { meta = λ h. nothing_most s.meta h stripes; calls = no_calls }
+  unchanged stripes locks = record { meta = λ h. nothing_most s.meta h stripes; calls = no_calls; many = refl; fails = λ id. refl }
 
   -- the metadata server is as a call left it
   pub called_meta : (call : Call) (m : MetaView) (locks : List Lock) → m ≡ after_call call s.meta → Does (stripes_of_call (length s.meta.nexts) call) s (record s { meta = m; locks = locks })
   called_meta call m locks e = record {
     meta = λ h. (let g = call_grows call s.meta h in let back : after_call call s.meta ≡ m = sym e in rw back at g);
     calls = no_calls;
+    many = refl;
+    fails = λ id. refl;
   }
 
   -- two keys are given back
   pub given_keys : (ours theirs : KeyView) → Does 0 s (record s { meta = both_given ours theirs s.meta })
-  given_keys ours theirs = record { meta = λ h. keys_grow s.meta h ours theirs; calls = no_calls }
+  given_keys ours theirs = record { meta = λ h. keys_grow s.meta h ours theirs; calls = no_calls; many = refl; fails = λ id. refl }
 
   -- a target is called once more
-  pub called : (t : ℕ) (u : TargetState) (entry : CallEntry) → u.calls ≡ (target_at s.targets t).calls ++ entry ∷ [] → Does 0 s (with_target s t u)
-  called t u entry e = record {
+  pub called : (t : ℕ) (u : TargetState) (entry : CallEntry) → u.calls ≡ (target_at s.targets t).calls ++ entry ∷ [] → u.fails ≡ (target_at s.targets t).fails → Does 0 s (with_target s t u)
+  called t u entry e keeps = record {
     meta = λ h. nothing_most s.meta h 0;
     calls = λ id. put_at s.targets t id u (let more : length u.calls ≡ length (target_at s.targets t).calls + 1 = ap (λ (es : List CallEntry). length es) e ∙ length-append (target_at s.targets t).calls (entry ∷ []) in omega (arith, more));
+    many = length-set s.targets t u;
+    fails = λ id. kept_put_at (λ (x : TargetState). x.fails) s.targets t id u keeps;
   }
 
   -- a target changes without a call
-  pub uncalled : (t : ℕ) (u : TargetState) → u.calls ≡ (target_at s.targets t).calls → Does 0 s (with_target s t u)
-  uncalled t u e = record {
+  pub uncalled : (t : ℕ) (u : TargetState) → u.calls ≡ (target_at s.targets t).calls → u.fails ≡ (target_at s.targets t).fails → Does 0 s (with_target s t u)
+  uncalled t u e keeps = record {
     meta = λ h. nothing_most s.meta h 0;
     calls = λ id. put_at s.targets t id u (let same : length u.calls ≡ length (target_at s.targets t).calls = ap (λ (es : List CallEntry). length es) e in omega (arith, same));
+    many = length-set s.targets t u;
+    fails = λ id. kept_put_at (λ (x : TargetState). x.fails) s.targets t id u keeps;
   }

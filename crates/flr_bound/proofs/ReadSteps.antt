@@ -43,7 +43,7 @@ module _ (r : ReadView) (s : Servers) where
   locks x next None = unchanged s 0 (s.locks ++ lock_for r (piece_at x.pieces next) ∷ [])
 
   read_piece : (p : Piece) → Does 0 s (piece_read s p)
-  read_piece p = called s (object_of p).target (after_read (target_of s p) (object_of p).number p.offset (length_of p)) _ refl
+  read_piece p = called s (object_of p).target (after_read (target_of s p) (object_of p).number p.offset (length_of p)) _ refl refl
 
   takes : (x : Reading) (next : ℕ) (p : Piece) (a : CallAnswer) → OnLeft (Does 0 s) (takes_piece r s x next p a)
   takes x next p answer.Ok = read_piece p
@@ -82,7 +82,7 @@ module _ (v : VerifyView) (s : Servers) where
   verify_opens (Some f) e = called_meta s (OpenRead v.client v.name) (with_change f.number (with_share v.client) s.meta) s.locks (sym (ap (λ (o : Option File). left_by (read_opens_file v.client v.name s.meta o) s.meta) e))
 
   read_copy : (p : Piece) → Does 0 s (verifies.copy_read s p)
-  read_copy p = called s (object_of p).target (after_read (verifies.target_of s p) (object_of p).number p.offset (length_of p)) _ refl
+  read_copy p = called s (object_of p).target (after_read (verifies.target_of s p) (object_of p).number p.offset (length_of p)) _ refl refl
 
   verify_takes : (x : Verifying) (next : ℕ) (p : Piece) (a : CallAnswer) → OnLeft (Does 0 s) (takes_copy v s x next p a)
   verify_takes x next p answer.Ok = read_copy p

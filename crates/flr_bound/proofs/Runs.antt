@@ -1,11 +1,14 @@
 -- What holds of the numbers in every state of a run.
-use Rattle.std.proofs.Common.{◌≡◌, ℕ, zero, suc, ◌+◌, ◌-◌, ◌*◌, ◌≤◌, false, true≢false, Some, List, [], ◌∷◌, ◌++◌, length, map, set, get_or, refl, sym, ap, subst, ◌∙◌, arith, length-append}
+use Rattle.std.proofs.Common.{◌≡◌, ℕ, zero, suc, ◌+◌, ◌-◌, ◌*◌, ◌≤◌, ◌<◌, false, true≢false, Some, List, [], ◌∷◌, ◌++◌, length, map, set, get_or, refl, sym, ap, subst, ◌∙◌, arith, length-append}
 use Rattle.std.specs.Prelude.{replicate, slice_get, unwrap_or}
 use Rattle.std.specs.List.{AllByRecursion, range_with_len, sum}
 use Rattle.std.proofs.lemmas.List.{length-replicate}
 use Rattle.std.proofs.lemmas.List.Folds.{sum_by-replicate}
+use Rattle.std.proofs.lemmas.List.FromFn.{get_or-map-range_with_len, length-map-range_with_len}
 use Rattle.std.proofs.lemmas.List.Sums.{sum_by-cons}
+use Rattle.std.proofs.lemmas.Option.{unwrap_or-slice_get}
 use Rattle.object_target.specs.declared.fail.Fail.{Fail}
+use Rattle.object_target.specs.Fails.{fails_on}
 use Rattle.object_target.specs.TargetState.{TargetState, new_target, new_targets, next_call}
 use Rattle.meta_growth.specs.Growth.{AreNumbered, Grows, IsUpTo, most_by_call}
 use Rattle.meta_growth.proofs.Steps.{all_up_to}
@@ -36,12 +39,14 @@ pub record IsHeld (s : State) : Type 0 where
   pub keys : s.shared.meta.leases.next ≤ 2 * length s.schedule + 1
   pub each : AllByRecursion (IsUpTo (3 * length s.schedule + 1) (length s.schedule + 1)) s.shared.meta.files
   pub calls : (id : ℕ) → next_call (target_at s.shared.targets id) ≤ length s.schedule + 1
+  pub many : length s.shared.targets ≡ s.script.targets
+  pub fails : (id : ℕ) → id < s.script.targets → (target_at s.shared.targets id).fails ≡ fails_on id s.script.fails
   pub named : AreNamed s
   pub begun : AllByRecursion (λ (client : Client). IsBegun client.call) s.clients
 
 -- ---- lists of clients
 
-all_got : (P : Client → Type 0) (xs : List Client) (i : ℕ) (x : Client) → AllByRecursion P xs → slice_get xs i ≡ Some x → P x
+pub all_got : (P : Client → Type 0) (xs : List Client) (i : ℕ) (x : Client) → AllByRecursion P xs → slice_get xs i ≡ Some x → P x
 all_got P [] i x h e = absurd (cc)
 all_got P (y ∷ ys) zero x h e = let same : y ≡ x = cc in subst P same h.0
 all_got P (y ∷ ys) (suc i) x h e = all_got P ys i x h.1 e
@@ -56,7 +61,7 @@ all_alike P zero x k = tt
 all_alike P (suc n) x k = (k, all_alike P n x k)
 
 -- a client by its number is found at its place
-at_place : (clients : List Client) (c : ℕ) (client : Client) → client_at clients c ≡ Some client → slice_get clients (c - 1) ≡ Some client
+pub at_place : (clients : List Client) (c : ℕ) (client : Client) → client_at clients c ≡ Some client → slice_get clients (c - 1) ≡ Some client
 at_place clients zero client e = absurd (cc)
 at_place clients (suc c) client e = let same : suc c - 1 ≡ c = omega arith in rw same e
 
@@ -67,6 +72,10 @@ no_calls fails [] i d e = e
 no_calls fails (id ∷ ids) zero d e = refl
 no_calls fails (id ∷ ids) (suc i) d e = no_calls fails ids i d e
 
+listed_at : (fails : List Fail) (n id : ℕ) (d : TargetState) → id < n → (unwrap_or (slice_get (map (λ id. new_target id fails) (range_with_len 0 n)) id) d).fails ≡ fails_on id fails
+listed_at fails n id d less =
+    ap (λ (x : TargetState). x.fails) (unwrap_or-slice_get (map (λ id. new_target id fails) (range_with_len 0 n)) id d ∙ get_or-map-range_with_len (λ id. new_target id fails) 0 n id id d less (omega arith))
+
 start_held : (script : ScriptView) → IsHeld (start script)
 start_held script = record {
   numbered = record { ascending = tt; below = tt };
@@ -75,6 +84,8 @@ start_held script = record {
   keys = omega arith;
   each = tt;
   calls = λ id. (let none : length (target_at (new_targets script.targets script.fails) id).calls ≡ 0 = ap length (no_calls script.fails (range_with_len 0 script.targets) id (new_target id []) refl) in omega (arith, none));
+  many = length-map-range_with_len (λ id. new_target id script.fails) 0 script.targets;
+  fails = λ id less. listed_at script.fails script.targets id (new_target id []) less;
   named = (
       let ones = sum_by-replicate (λ (n : ℕ). n) script.targets 1 in
       let all = come_all script.targets script.clients in
@@ -105,11 +116,13 @@ stepped_held s c client new asked after note h here commanded does begun count =
           subst (λ (k : ℕ). AllByRecursion (IsUpTo (3 * k + 1) (k + 1)) after.meta.files) (sym more)
           (all_up_to ((3 * n + 1) + 3) ((n + 1) + 1) (3 * (n + 1) + 1) ((n + 1) + 1) after.meta.files (omega arith) (omega arith) (g.each (3 * n + 1) (n + 1) h.each));
       calls = λ id. (let one = does.calls id in let before = h.calls id in omega (arith, one, before, more));
+      many = does.many ∙ h.many;
+      fails = λ id less. does.fails id ∙ h.fails id less;
       named = record { made = omega (arith, g.stripes, h.named.made, named, come, next, counted); whole = omega (arith, g.whole, h.named.whole, named, come, next, counted) };
       begun = all_put (λ (x : Client). IsBegun x.call) s.clients (c - 1) new h.begun begun;
     }
 
-busy_count : (call : Running) (done : ℕ) → is_idle call ≡ false → begun_count call done ≡ done + 1
+pub busy_count : (call : Running) (done : ℕ) → is_idle call ≡ false → begun_count call done ≡ done + 1
 busy_count running.Idle done e = absurd (true≢false e)
 busy_count (running.Read call) done e = refl
 busy_count (running.Write call) done e = refl

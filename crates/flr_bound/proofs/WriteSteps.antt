@@ -38,7 +38,7 @@ module _ (w : WriteView) (place : ℕ) (s : Servers) where
   locks x next None = unchanged s 0 (s.locks ++ lock_for w (piece_at x.pieces next) ∷ [])
 
   sends : (x : WritingView) (p : Piece) → Does 0 s (piece_sent w s x p)
-  sends x p = called s (object_of p).target (after_write (target_of s p) (object_of p).number p.offset (bytes_of w p) x.opened.layout.generation) _ refl
+  sends x p = called s (object_of p).target (after_write (target_of s p) (object_of p).number p.offset (bytes_of w p) x.opened.layout.generation) _ refl refl
 
   commits_by : (x : WritingView) (end : ℕ) (came : Sent) (b : Bool) → OnLeft (Does 0 s) (commits_write w s x end came b)
   commits_by x end came true = called_meta s (Commit x.opened.file x.opened.cookie end) (commits x.opened.file x.opened.cookie end s.meta) s.locks refl
@@ -68,7 +68,7 @@ module _ (t : TruncateView) (place : ℕ) (s : Servers) where
   cut_locks x None = unchanged s 0 (s.locks ++ locks_for t x)
 
   punches : (x : CuttingView) (tail : Tail) → Does 0 s (tail_punched s x tail)
-  punches x tail = called s tail.object.target (after_punch (target_of_tail s tail) tail.object.number tail.offset x.opened.layout.generation) _ refl
+  punches x tail = called s tail.object.target (after_punch (target_of_tail s tail) tail.object.number tail.offset x.opened.layout.generation) _ refl refl
 
   committed : (x : CuttingView) (came : Sent) → Does 0 s (cut_committed t s x came)
   committed x sent.All = called_meta s (Cut x.opened.file x.opened.cookie t.size) (cuts x.opened.file x.opened.cookie t.size s.meta) s.locks refl

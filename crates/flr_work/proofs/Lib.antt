@@ -1,0 +1,9 @@
+pub mod Held
+pub mod Costs
+pub mod ReadSteps
+pub mod WriteSteps
+pub mod VerifySteps
+pub mod Chunks
+pub mod Merging
+pub mod CopySteps
+pub mod MergeSteps

@@ -1,0 +1,4 @@
+pub mod Paying
+pub mod Known
+pub mod Left
+pub mod Laws
