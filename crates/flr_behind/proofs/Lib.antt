@@ -1,0 +1,9 @@
+pub mod Following
+pub mod Calls
+pub mod Steps
+pub mod CopySteps
+pub mod Commands
+pub mod Opening
+pub mod Holding
+pub mod Keeping
+pub mod Runs
