@@ -16,4 +16,5 @@ pub mod CauseKeeping
 pub mod MergePhases
 pub mod MergeGoing
 pub mod MergeKeeping
+pub mod MergeEnds
 pub mod Logged

@@ -137,13 +137,15 @@ pairs_hold c steps p k = by (next_pair p) refl
         start false init b = second init b
 
     by : (o : Option ℕ) → next_pair p ≡ o → MergeHolds c steps (pairs_at p o)
-    by None e = Same x.ours x.theirs p.size (chunks_below p.size) refl refl (chunks_end p.size) (record {
-      settle = k.settle;
-      takes = k.takes;
-      merging = k.merging;
-      our_size = k.our_size;
-      their_size = k.their_size;
-      same = λ n lt below. at n below (cases_lt n p.number);
+    by None e = Same (record {
+      our_side = x.ours;
+      their_side = x.theirs;
+      our_key = refl;
+      their_key = refl;
+      size = p.size;
+      number = chunks_below p.size;
+      whole = chunks_end p.size;
+      before = record { settle = k.settle; takes = k.takes; merging = k.merging; our_size = k.our_size; their_size = k.their_size; same = λ n lt below. at n below (cases_lt n p.number) };
     })
       where
         at : (n : ℕ) → chunk_start n < p.size → (n < p.number) ⊎ (p.number ≤ n) → IsSameChunk x.ours.layout.components x.theirs.layout.components p.size n k.takes

@@ -3,6 +3,7 @@ use Rattle.std.specs.Prelude.{◌≡◌, ◌≢◌, ◌⊎◌, ℕ, ◌+◌, ◌
 use Rattle.std.specs.List.{AllByRecursion}
 use Rattle.flr_base.specs.declared.reply.ObjectId.{ObjectId}
 use Rattle.flr_base.specs.declared.reply.Reply.TheVariants as reply
+use Rattle.flr_base.specs.declared.reply.Take.{Take}
 use Rattle.composite_layout.specs.declared.component.Component.{Component}
 use Rattle.extent_lock.specs.Extents.{writer_but}
 use Rattle.layout_lease.specs.Leases.{KeyView}
@@ -12,9 +13,11 @@ use Rattle.meta_server.specs.declared.answers.Begun.TheVariants as begun_as
 use Rattle.meta_server.specs.declared.answers.CopyWhat.{CopyWhat}
 use Rattle.meta_server.specs.declared.answers.Side.{Side}
 use Rattle.meta_server.specs.Beginning.{copy_begins}
-use Rattle.meta_server.specs.Closing.{size_of}
+use Rattle.meta_server.specs.Closing.{is_there, size_of}
 use Rattle.meta_server.specs.Outcomes.{Gives}
 use Rattle.call_steps.specs.Runs.{CallStep, IsRun}
+use Rattle.call_steps.specs.Servers.{Servers}
+use Rattle.call_steps.specs.Steps.{Answered}
 use Rattle.resync_copy.specs.declared.phase.CopyAt.TheVariants as at
 use Rattle.resync_copy.specs.declared.merge_phase.MergeStage.TheVariants as merge
 use Rattle.resync_copy.specs.Calls.{CopyView}
@@ -81,11 +84,27 @@ pub record WasGone (c : CopyView) (ours theirs : Side) (steps : List (CallStep C
   pub merging : IsMerging c ours theirs steps settle takes
   pub gone : (size_of ours.file settle.before.meta ≡ None) ⊎ (size_of theirs.file settle.before.meta ≡ None)
 
+-- all chunks of the files of these two keys are the same
+pub record AreSame (c : CopyView) (ours theirs : KeyView) (steps : List (CallStep CopyView)) : Type 0 where
+  pub our_side : Side
+  pub their_side : Side
+  pub our_key : our_side.key ≡ ours
+  pub their_key : their_side.key ≡ theirs
+  pub size : ℕ
+  pub number : ℕ
+  pub whole : size ≤ chunk_start number
+  pub before : AreSameBefore c our_side their_side steps size number
+
 -- what a merge has done whose end is to take the file in: all chunks of both files are the same, or one of them was gone
 pub data MayTakeIn (c : CopyView) (ours theirs : KeyView) (steps : List (CallStep CopyView)) : Type 0 where
-  Same : (our_side their_side : Side) (size number : ℕ) → our_side.key ≡ ours → their_side.key ≡ theirs → size ≤ chunk_start number
-      → AreSameBefore c our_side their_side steps size number → MayTakeIn c ours theirs steps
+  Same : AreSame c ours theirs steps → MayTakeIn c ours theirs steps
   Gone : (our_side their_side : Side) → our_side.key ≡ ours → their_side.key ≡ theirs → WasGone c our_side their_side steps → MayTakeIn c ours theirs steps
+
+-- a file that isn't there at one of these steps isn't there at a later one
+abbrev pub StayGone : List (CallStep CopyView) → Type 0
+StayGone steps =
+    (front between behind : List (CallStep CopyView)) (early late : CallStep CopyView) (file : ℕ) →
+    steps ≡ front ++ early ∷ (between ++ late ∷ behind) → is_there file early.before.meta ≡ false → is_there file late.before.meta ≡ false
 
 -- the files differ first at this byte, where they have these two
 pub record DifferFirst (c : CopyView) (ours theirs : KeyView) (offset our_byte their_byte : ℕ) (steps : List (CallStep CopyView)) : Type 0 where
@@ -111,7 +130,14 @@ MergesWhereSame =
     IsRun copy_step (new_copy client name what) (steps ++ made ∷ []) → All IsMade (steps ++ made ∷ []) →
     made.call.at ≡ at.Merge (merge.Done ours theirs None) → MayTakeIn (new_copy client name what) ours theirs steps
 
--- and tells the first difference with its two bytes
+-- where files that are gone stay gone, a merge that answers that it took its victim in found both files the same
+abbrev pub MergedAreSame : Type 0
+MergedAreSame =
+    (client : ℕ) (name : List ℕ) (what : CopyWhat) (steps : List (CallStep CopyView)) (made : CallStep CopyView) (ours theirs : KeyView) (ids : List ℕ) (takes : List Take) (after : Servers) →
+    IsRun copy_step (new_copy client name what) (steps ++ made ∷ []) → All IsMade (steps ++ made ∷ []) → StayGone (steps ++ made ∷ []) →
+    made.call.at ≡ at.Merge (merge.Done ours theirs None) → made.came ≡ Answered (reply.Merged ids) takes after → AreSame (new_copy client name what) ours theirs steps
+
+-- a merge tells the first difference with its two bytes
 abbrev pub TellsFirstDifference : Type 0
 TellsFirstDifference =
     (client : ℕ) (name : List ℕ) (what : CopyWhat) (steps : List (CallStep CopyView)) (made : CallStep CopyView) (ours theirs : KeyView) (offset our_byte their_byte : ℕ) →

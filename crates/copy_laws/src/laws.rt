@@ -1,7 +1,7 @@
 //! What callers of a copy can rely on, from its begin to its end.
 
 ghost use Rattle.copy_laws.specs.Causes.{FailedAreLogged, LeftHaveCauses};
-ghost use Rattle.copy_laws.specs.Merged.{MergesWhereSame, TellsFirstDifference};
+ghost use Rattle.copy_laws.specs.Merged.{MergedAreSame, MergesWhereSame, TellsFirstDifference};
 ghost use Rattle.copy_laws.specs.Whole.{ClearedAreWhole};
 
 /// A destination that a copy hands over to be cleared was copied whole: each object of each source
@@ -23,9 +23,11 @@ pub fn a_left_destination_has_its_cause()
 
 /// A merge takes its victim in only where every chunk below the size that both files had at its settle
 /// is the same in both, each by an Ok take from a fresh component or by a hole's zeros; or where a
-/// file was gone at the settle, whose lease is broken then. Where it answers that the files differ, the
-/// byte is the first that does, and the two bytes are those that each file has there.
+/// file was gone at the settle, whose lease is broken then. Where its done step answers `Merged`, and
+/// files that are gone stay gone over the run, every such chunk is the same. Where it answers that the
+/// files differ, the byte is the first that does, and the two bytes are those that each file has there.
 pub fn a_merge_takes_in_what_is_the_same()
     ensures same { MergesWhereSame }
+    ensures merged { MergedAreSame }
     ensures first { TellsFirstDifference }
 {}

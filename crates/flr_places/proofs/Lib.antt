@@ -1,0 +1,6 @@
+pub mod Steps
+pub mod CopySteps
+pub mod Commands
+pub mod Calls
+pub mod Keeping
+pub mod Runs

@@ -1,0 +1,5 @@
+pub mod Single
+pub mod Layouts
+pub mod Files
+pub mod Calls
+pub mod Keeping

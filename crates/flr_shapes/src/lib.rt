@@ -1,0 +1,7 @@
+//! The shapes of objects, in every state of a run: an object has one extent, one size and count of stripes and
+//! one place among them, in whatever file it stands, and no step changes it.
+#![tactic(auto)]
+
+mod laws;
+
+pub use laws::objects_keep_their_shapes;
