@@ -50,17 +50,17 @@ in_unordered k ks i =
 -- ---- what a begin leaves as it was
 
 -- a component once objects were made
-record IsSame (c d : Component) : Type 0 where
-  id : d.id ≡ c.id
-  extent : d.extent ≡ c.extent
-  stale : d.flags.stale ≡ c.flags.stale
-  offline : d.flags.offline ≡ c.flags.offline
+pub record IsSame (c d : Component) : Type 0 where
+  pub id : d.id ≡ c.id
+  pub extent : d.extent ≡ c.extent
+  pub stale : d.flags.stale ≡ c.flags.stale
+  pub offline : d.flags.offline ≡ c.flags.offline
 
 made_offline : (gets : Bool) (file : ℕ) (nexts : List ℕ) (c : Component) → (with_made c (made_for gets file nexts c)).flags.offline ≡ c.flags.offline
 made_offline true file nexts c = refl
 made_offline false file nexts c = refl
 
-new_in : (wanted : Component → Bool) (file : ℕ) (nexts : List ℕ) (cs : List Component) (c : Component) → In c cs → (d : Component) × In d (with_new_objects wanted file nexts cs) × IsSame c d
+pub new_in : (wanted : Component → Bool) (file : ℕ) (nexts : List ℕ) (cs : List Component) (c : Component) → In c cs → (d : Component) × In d (with_new_objects wanted file nexts cs) × IsSame c d
 new_in wanted file nexts [] c i = absurd i
 new_in wanted file nexts (x ∷ xs) c i =
     let gets : Bool = gets_objects wanted x in

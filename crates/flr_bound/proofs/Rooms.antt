@@ -95,7 +95,7 @@ script_few script h =
 
 -- ---- room
 
-pub run_room : (s : State) → IsRun s → length s.schedule ≤ 8388608 → HasRoom s.shared
+pub run_room : (s : State) → IsRun s → length s.schedule ≤ 8388609 → HasRoom s.shared
 run_room s run short =
     let n : ℕ = length s.schedule in
     let w = run_within s run in

@@ -51,12 +51,12 @@ all_got P [] i x h e = absurd (cc)
 all_got P (y ∷ ys) zero x h e = let same : y ≡ x = cc in subst P same h.0
 all_got P (y ∷ ys) (suc i) x h e = all_got P ys i x h.1 e
 
-all_put : (P : Client → Type 0) (xs : List Client) (i : ℕ) (x : Client) → AllByRecursion P xs → P x → AllByRecursion P (set xs i x)
+pub all_put : (P : Client → Type 0) (xs : List Client) (i : ℕ) (x : Client) → AllByRecursion P xs → P x → AllByRecursion P (set xs i x)
 all_put P [] i x h k = tt
 all_put P (y ∷ ys) zero x h k = (k, h.1)
 all_put P (y ∷ ys) (suc i) x h k = (h.0, all_put P ys i x h.1 k)
 
-all_alike : (P : Client → Type 0) (n : ℕ) (x : Client) → P x → AllByRecursion P (replicate n x)
+pub all_alike : (P : Client → Type 0) (n : ℕ) (x : Client) → P x → AllByRecursion P (replicate n x)
 all_alike P zero x k = tt
 all_alike P (suc n) x k = (k, all_alike P n x k)
 

@@ -16,6 +16,6 @@ StripesAreNamed = (s : State) → IsRun s → AreNamed s
 abbrev pub ScriptsNameFew : Type 0
 ScriptsNameFew = (script : ScriptView) → IsScript script → stripes_named script ≤ 536870912
 
--- after at most as many places as a script may have work, there is room for whatever comes next
+-- after at most one place more than a script may have work, there is room for whatever comes next
 abbrev pub ShortRunsHaveRoom : Type 0
-ShortRunsHaveRoom = (s : State) → IsRun s → length s.schedule ≤ 8388608 → HasRoom s.shared
+ShortRunsHaveRoom = (s : State) → IsRun s → length s.schedule ≤ 8388609 → HasRoom s.shared

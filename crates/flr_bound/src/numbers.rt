@@ -22,8 +22,8 @@ pub fn scripts_name_few()
     ensures few { ScriptsNameFew }
 {}
 
-/// In every state after at most 8388608 places, the most work that a script may have, every next number
-/// and every generation leaves the room that the calls of the servers want.
+/// In every state after at most 8388609 places, one more than the most work that a script may have, every
+/// next number and every generation leaves the room that the calls of the servers want.
 pub fn short_runs_have_room()
     ensures room { ShortRunsHaveRoom }
 {}

@@ -73,7 +73,7 @@ pub record IsLinear (script : ScriptView) (schedule : List ℕ) (calls : List An
 
 -- every command of the script has its entry, and each entry has ended
 pub record IsWhole (script : ScriptView) (entries : List Entry) : Type 0 where
-  pub every : (client : ℕ) → length (entries_of client entries) ≡ length (commands_of script client)
+  pub every : (client : ℕ) → 0 < client → length (entries_of client entries) ≡ length (commands_of script client)
   pub ended : AllByRecursion (λ (e : Entry). 0 < e.last) entries
 
 -- a call that has ended before another began stands before it

@@ -1,10 +1,9 @@
 -- No run is longer than its script's work.
-use Rattle.std.proofs.Common.{◌≡◌, ◌≢◌, ℕ, zero, suc, ◌+◌, ◌-◌, ◌*◌, ◌≤◌, false, Option, Some, None, List, [], ◌∷◌, ◌++◌, length, set, ◌⊎◌, inl, inr, refl, sym, ap, subst, ◌∙◌, arith, length-append}
+use Rattle.std.proofs.Common.{◌≡◌, ℕ, zero, suc, ◌+◌, ◌-◌, ◌≤◌, Some, List, [], ◌∷◌, ◌++◌, length, set, ◌⊎◌, inl, inr, refl, sym, ap, subst, ◌∙◌, arith, length-append}
 use Rattle.std.specs.Prelude.{replicate, slice_get, slice_index_or}
 use Rattle.std.specs.Option.{option_and_then}
 use Rattle.std.proofs.lemmas.Bool.{cases_eq}
 use Rattle.flr_base.specs.declared.reply.Reply.TheVariants as reply
-use Rattle.layout_lease.specs.declared.shared.Share.{Share}
 use Rattle.meta_server.specs.declared.answers.Opened.{Opened}
 use Rattle.meta_server.specs.Files.{MetaView}
 use Rattle.meta_laws.specs.Calls.{Evict, after_call}
@@ -12,7 +11,7 @@ use Rattle.call_steps.specs.Servers.{Servers}
 use Rattle.call_steps.specs.Steps.{Outcome, Going, Fixed, Ended, Answered, Blocked}
 use Rattle.script_values.specs.declared.command.Command.{Command}
 use Rattle.script_values.specs.declared.command.Command.TheVariants as command
-use Rattle.script_values.specs.Scripts.{IsScript, ScriptView, command_after, commands_of, work_of}
+use Rattle.script_values.specs.Scripts.{IsScript, ScriptView, work_of}
 use Rattle.flr_steps.specs.declared.client.Client.{Client}
 use Rattle.flr_steps.specs.declared.client.Note.{Note}
 use Rattle.flr_steps.specs.declared.client.Note.TheVariants.{Nothing, Adds, Closes}
@@ -263,13 +262,16 @@ follows_run s t c run is f = record {
   run = ap (λ (x : ScriptView). after (start x) t.schedule) f.script ∙ ap (λ (cs : List ℕ). after (start s.script) cs) f.schedule ∙ after_more (start s.script) s t s.schedule c run.run is;
 }
 
-module _ (script : ScriptView) (all : (s : State) → IsRun s → s.script ≡ script → IsKnown s) where
+module _ (script : ScriptView) (all : (s : State) → IsRun s → s.script ≡ script → length s.schedule ≤ work_of script + 1 → IsKnown s) where
   one : (s t : State) (c : ℕ) → IsRun s → IsPaid script s → next s c ≡ Stepped t → IsRun t × IsPaid script t
   one s t c run h is =
       let st : StepIs s c t = step_is s t c is in
       let f : Follows s c t = follows s t c st.client (first_now st.client.call (place_in s) st.client.first) st.came st.left in
       let then : IsRun t = follows_run s t c run is f in
-      (then, step_paid script s t c run h (all s run h.same) (all t then (f.script ∙ h.same)) st)
+      let paid = h.paid in
+      let work : work_of s.script ≡ work_of script = ap work_of h.same in
+      let more : length t.schedule ≡ length s.schedule + 1 = ap (λ (cs : List ℕ). length cs) f.schedule ∙ length-append s.schedule (c ∷ []) in
+      (then, step_paid script s t c run h (all s run h.same (omega (arith, paid, work))) (all t then (f.script ∙ h.same) (omega (arith, paid, work, more))) st)
 
   by_next : (cs : List ℕ) (s t : State) (c : ℕ) → IsRun s → IsPaid script s → (n : Next) → next s c ≡ n → ((mid : State) → IsRun mid → IsPaid script mid → after mid cs ≡ Some t → IsPaid script t) → option_and_then (λ mid. after mid cs) (state_of n) ≡ Some t → IsPaid script t
   by_next cs s t c run h (Stepped mid) is rest e = let k = one s mid c run h is in rest mid k.0 k.1 e

@@ -1,5 +1,5 @@
 -- Each step of a client's call pays.
-use Rattle.std.proofs.Common.{◌≡◌, ◌≢◌, ℕ, ◌+◌, ◌*◌, ◌≤◌, Bool, true, false, cond, Option, Some, None, List, length, refl, sym, ap, subst, arith}
+use Rattle.std.proofs.Common.{◌≡◌, ◌≢◌, ℕ, ◌+◌, ◌*◌, ◌≤◌, Bool, true, false, cond, Option, Some, None, List, refl, sym, subst, arith}
 use Rattle.flr_base.specs.declared.reply.ObjectId.{ObjectId}
 use Rattle.flr_base.specs.declared.reply.Range.{Range}
 use Rattle.flr_base.specs.declared.reply.Reply.{Reply}
@@ -16,13 +16,12 @@ use Rattle.object_target.specs.TargetState.{TargetState, next_call}
 use Rattle.script_values.specs.declared.command.Command.{Command}
 use Rattle.script_values.specs.declared.command.Command.TheVariants as command
 use Rattle.script_values.specs.Scripts.{ScriptView}
-use Rattle.script_values.specs.Work.{base_of, base_of_lfs, blocks_of, evictions_of}
+use Rattle.script_values.specs.Work.{blocks_of}
 use Rattle.client_read.specs.Reads.{new_read, read_step}
 use Rattle.client_read.specs.Views.{ReadView}
 use Rattle.client_write.specs.Calls.{TruncateView, WriteView}
 use Rattle.client_write.specs.Truncates.{new_truncate, truncate_step}
 use Rattle.client_write.specs.Writes.{new_write, range_of, write_step}
-use Rattle.meta_server.specs.declared.answers.CopyWhat.{CopyWhat}
 use Rattle.meta_server.specs.declared.answers.CopyWhat.TheVariants as what
 use Rattle.meta_server.specs.Files.{File, MetaView, file_named}
 use Rattle.meta_server.specs.Naming.{creates, removes, sets}
@@ -46,7 +45,7 @@ use Rattle.flr_steps.specs.Commands.{answered_by, at_once, begun_lfs, step_of}
 use Rattle.flr_bound.proofs.Outcomes.{OnNext, kept_put_at}
 use Rattle.flr_work.specs.Known.{KnownCall, KnownCopy, KnownCut, KnownRead, KnownVerify, KnownWrite, chunk_room, stripes_of_script, take_room}
 use Rattle.flr_work.specs.Left.{OwnsCopy, OwnsRead, OwnsTruncate, OwnsVerify, OwnsWrite, copy_left, cut_left, read_left, verify_left, write_left}
-use Rattle.flr_work.specs.Paying.{AreListed, Fares, Goes, Leaves, Stops, dues}
+use Rattle.flr_work.specs.Paying.{AreListed, Fares, Leaves, dues}
 use Rattle.flr_work.proofs.Costs.{dues_fall, leaves_by}
 use Rattle.flr_work.proofs.Held.{Spares}
 use Rattle.flr_work.proofs.MergeSteps.{copy_fares}

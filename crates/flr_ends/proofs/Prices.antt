@@ -1,5 +1,5 @@
 -- What commands cost, and what they cost in all.
-use Rattle.std.proofs.Common.{◌≡◌, ℕ, zero, suc, ◌+◌, ◌*◌, ◌≤◌, ◌<◌, Bool, true, false, nat_le, cond, Option, Some, None, List, [], ◌∷◌, ◌++◌, length, get_or, max, refl, sym, ap, ◌∙◌, arith}
+use Rattle.std.proofs.Common.{◌≡◌, ℕ, zero, suc, ◌+◌, ◌*◌, ◌≤◌, ◌<◌, Bool, true, false, nat_le, cond, Option, Some, None, List, [], ◌∷◌, length, get_or, refl, ap, arith}
 use Rattle.std.specs.Prelude.{replicate, slice_get, slice_index_or}
 use Rattle.std.specs.List.{sum_by}
 use Rattle.std.proofs.Math.Nat.{add-mul}
@@ -13,12 +13,11 @@ use Rattle.script_values.specs.Work.{evictions_of, greatest_by}
 use Rattle.script_values.proofs.Measures.{greatest-append, greatest-cons}
 use Rattle.object_target.specs.TargetState.{TargetState, next_call}
 use Rattle.call_steps.specs.Servers.{target_at}
-use Rattle.flr_steps.specs.declared.client.Client.{Client}
 use Rattle.flr_steps.specs.declared.client.Running.{Running}
 use Rattle.flr_steps.specs.declared.client.Running.TheVariants as running
 use Rattle.flr_steps.specs.States.{new_client}
 use Rattle.flr_bound.specs.Numbers.{begun_count}
-use Rattle.flr_work.specs.Paying.{due, dues, dues_by}
+use Rattle.flr_work.specs.Paying.{dues, dues_by}
 use Rattle.flr_ends.proofs.Calls.{base_at, call_left, client_left, base_for, most_base, price, prices_after}
 use Rattle.flr_ends.proofs.Fares.{budget}
 use Rattle.flr_ends.proofs.Totals.{total}

@@ -34,14 +34,14 @@ module _ (k : CopyView) (s : Servers) (is : IsClient k.client) (room : HasRoom s
     where
       by : (stage_hand next ≡ copying x.side.key x.side.layout) ⊎ (stage_hand next ≡ ending x.side.key) → Good k.client s (stage_hand next) after
       by (inl same) = subst (λ (j : Hand). Good k.client s j after) (sym same) good
-      by (inr last) = subst (λ (j : Hand). Good k.client s j after) (sym last) (record { servers = good.servers; has = ends_has k.client after.meta after.locks x.side.key x.side.layout good.has; changes = good.changes })
+      by (inr last) = subst (λ (j : Hand). Good k.client s j after) (sym last) (record { servers = good.servers; has = ends_has k.client after.meta after.locks x.side.key x.side.layout good.has; changes = good.changes; layouts = good.layouts })
 
   merges : (after : Servers) (x : ComparingView) (next : MergeStage) → Good k.client s (comparing x) after → IsNextOf x next → Good k.client s (merge_hand next) after
   merges after x next good is = by is.0
     where
       by : (merge_hand next ≡ comparing x) ⊎ (merge_hand next ≡ merging x.ours.key x.theirs.key) → Good k.client s (merge_hand next) after
       by (inl same) = subst (λ (j : Hand). Good k.client s j after) (sym same) good
-      by (inr last) = subst (λ (j : Hand). Good k.client s j after) (sym last) (record { servers = good.servers; has = merges_has k.client after.meta after.locks x good.has; changes = good.changes })
+      by (inr last) = subst (λ (j : Hand). Good k.client s j after) (sym last) (record { servers = good.servers; has = merges_has k.client after.meta after.locks x good.has; changes = good.changes; layouts = good.layouts })
 
   begins_by : (o : meta.Outcome Begun) → Has k.client s.meta s.locks nothing → BeginsWell k.client s o → Fine k.client hand_of_copy (IsCopyOfClient k.client) s (begins k s o)
   begins_by (Gives begun_as.Nothing after) has well = well

@@ -87,8 +87,9 @@ module _ (s : State) (c : ℕ) (client : Client) (h : Holds s) (here : client_at
   left_holds first (Answered reply takes after) t fine left = subst Holds (sym left) (stepped_holds (over client first) after (Adds (entry c client first (place_in s) (place_in s) reply takes)) fine tt)
   left_holds first (Blocked holder) t fine left = absurd left
 
-pub step_holds : (s t : State) (c : ℕ) → Holds s → HasRoom s.shared → StepIs s c t → Holds t
-step_holds s t c h room step =
+-- what a step of a client came to is fine
+pub came_fine : (s t : State) (c : ℕ) → Holds s → HasRoom s.shared → (step : StepIs s c t) → Fine c hand_of (IsCallOf c) s.shared step.came
+came_fine s t c h room step =
     let client : Client = step.client in
     let of = h.clients c client step.here in
     let le = h.script.form.few_mirrors in
@@ -97,4 +98,7 @@ step_holds s t c h room step =
     let fine = step_fine c s.shared step.asked s.script.most s.script.targets (length s.script.clients) le few good (is_client s c client h step.here) room.meta h.servers (place_in s) (call_now c client.call step.asked)
     (has_now c s.shared step.asked s.script.most s.script.targets (length s.script.clients) le few good client.call of.has)
     (is_now c s.shared step.asked s.script.most s.script.targets (length s.script.clients) le few good client.call of.call) in
-    left_holds s c client h step.here (first_now client.call (place_in s) client.first) step.came t (subst (λ (o : Outcome Running). Fine c hand_of (IsCallOf c) s.shared o) step.made fine) step.left
+    subst (λ (o : Outcome Running). Fine c hand_of (IsCallOf c) s.shared o) step.made fine
+
+pub step_holds : (s t : State) (c : ℕ) → Holds s → HasRoom s.shared → StepIs s c t → Holds t
+step_holds s t c h room step = left_holds s c step.client h step.here (first_now step.client.call (place_in s) step.client.first) step.came t (came_fine s t c h room step) step.left

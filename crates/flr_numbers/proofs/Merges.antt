@@ -190,7 +190,7 @@ module _ (k : CopyView) (s : Servers) (room : HasRoom s.meta) (h : AreServers s.
     given_kept : Kept m (both_given ours theirs m)
     given_kept =
         let one : Kept m (with_given ours m) = kept_by (GiveUp ours) m h.sound h.once tt in
-        kept_then m (with_given ours m) (both_given ours theirs m) one (kept_by (GiveUp theirs) (with_given ours m) one.sound one.once tt)
+        kept_then m (with_given ours m) (both_given ours theirs m) one (kept_by (GiveUp theirs) (with_given ours m) one.sound one.once tt) refl
 
     both_leaves : Leaves k.client m (both_given ours theirs m)
     both_leaves =

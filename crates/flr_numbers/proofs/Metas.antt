@@ -16,6 +16,7 @@ use Rattle.meta_server.specs.Conditions.{IsRoom, MayShare}
 use Rattle.meta_server.specs.Files.{File, MetaView, file_of, same_name, with_change, with_freed, with_share}
 use Rattle.meta_server.specs.Sound.{IsSound}
 use Rattle.meta_laws.proofs.Copies.{there_named}
+use Rattle.meta_laws.proofs.Explaining.{explained_same}
 use Rattle.meta_laws.proofs.Finding.{found_keeps}
 use Rattle.flr_numbers.specs.Frames.{IsShared, Leaves}
 use Rattle.flr_numbers.proofs.Cookies.{held_freed, held_shared, none_of}
@@ -31,15 +32,15 @@ use Rattle.flr_numbers.proofs.Serving.{Kept, kept_servers, meta_servers}
 module _ (c : ℕ) (s : Servers) (h : Hand) where
   -- nothing changes
   pub good_same : AreServers s.meta s.targets → Has c s.meta s.locks h → Good c s h s
-  good_same servers has = record { servers = servers; has = has; changes = record { meta = leaving.nothing c s.meta; nexts = λ target. omega arith; many = refl; locks = λ other apart. refl } }
+  good_same servers has = record { servers = servers; has = has; changes = record { meta = leaving.nothing c s.meta; nexts = λ target. omega arith; many = refl; locks = λ other apart. refl }; layouts = explained_same s.meta }
 
   -- the targets alone change
   pub good_targets : (targets : List TargetState) → AreServers s.meta targets → Has c s.meta s.locks h → Good c s h (record s { targets = targets })
-  good_targets targets servers has = record { servers = servers; has = has; changes = record { meta = leaving.nothing c s.meta; nexts = λ target. omega arith; many = refl; locks = λ other apart. refl } }
+  good_targets targets servers has = record { servers = servers; has = has; changes = record { meta = leaving.nothing c s.meta; nexts = λ target. omega arith; many = refl; locks = λ other apart. refl }; layouts = explained_same s.meta }
 
   -- the client's extent locks alone change
   pub good_locks : (left : List Lock) → ((other : ℕ) → other ≢ c → locks_of other left ≡ locks_of other s.locks) → AreServers s.meta s.targets → Has c s.meta left h → Good c s h (record s { locks = left })
-  good_locks left others servers has = record { servers = servers; has = has; changes = record { meta = leaving.nothing c s.meta; nexts = λ target. omega arith; many = refl; locks = others } }
+  good_locks left others servers has = record { servers = servers; has = has; changes = record { meta = leaving.nothing c s.meta; nexts = λ target. omega arith; many = refl; locks = others }; layouts = explained_same s.meta }
 
   -- the metadata server alone changes
   pub good_meta : (new : MetaView) → Kept s.meta new → Leaves c s.meta new → AreServers s.meta s.targets → Has c new s.locks h → Good c s h (record s { meta = new })
@@ -47,6 +48,7 @@ module _ (c : ℕ) (s : Servers) (h : Hand) where
     servers = meta_servers c s.meta new s.targets kept leaves servers;
     has = has;
     changes = record { meta = leaves; nexts = kept.falls.objects; many = kept.falls.targets; locks = λ other apart. refl };
+    layouts = kept.layouts;
   }
 
   -- the metadata server changes, and the client gives its extent locks back
@@ -55,6 +57,7 @@ module _ (c : ℕ) (s : Servers) (h : Hand) where
     servers = meta_servers c s.meta new s.targets kept leaves servers;
     has = has;
     changes = record { meta = leaves; nexts = kept.falls.objects; many = kept.falls.targets; locks = λ other apart. others_locked c other s.locks apart };
+    layouts = kept.layouts;
   }
 
 -- a target is called that keeps the versions that it kept

@@ -5,7 +5,9 @@ use Rattle.object_target.specs.TargetState.{TargetState}
 use Rattle.meta_server.specs.Files.{File, MetaView, file_of}
 use Rattle.meta_server.specs.Sound.{IsSound}
 use Rattle.meta_laws.specs.Calls.{Call, MayCall, after_call}
+use Rattle.meta_laws.specs.Layouts.{AreExplained}
 use Rattle.meta_laws.specs.Numbers.{AreObjectsOnce, NoneFalls}
+use Rattle.meta_laws.proofs.Explained.{call_explained}
 use Rattle.meta_laws.proofs.Falling.{call_draws}
 use Rattle.meta_laws.proofs.Runs.{call_sound}
 use Rattle.meta_laws.proofs.Single.{call_once}
@@ -45,20 +47,23 @@ raised_servers m old new p g many raises made behind h = record {
 
 -- ---- the metadata server
 
--- what a call keeps of it
+-- what a call keeps of it, and what each layout comes from
 pub record Kept (m new : MetaView) : Type 0 where
   pub sound : IsSound new
   pub once : AreObjectsOnce new
   pub falls : NoneFalls m new
+  pub layouts : AreExplained m new.files
 
 pub kept_by : (call : Call) (m : MetaView) → IsSound m → AreObjectsOnce m → MayCall call m → Kept m (after_call call m)
-kept_by call m h k may = record { sound = call_sound call m h may; once = call_once call m h may k; falls = call_draws m h call }
+kept_by call m h k may = record { sound = call_sound call m h may; once = call_once call m h may k; falls = call_draws m h call; layouts = call_explained call m h may }
 
-pub kept_then : (a b c : MetaView) → Kept a b → Kept b c → Kept a c
-kept_then a b c h k = record {
+-- two calls, of which the second leaves the files
+pub kept_then : (a b c : MetaView) → Kept a b → Kept b c → c.files ≡ b.files → Kept a c
+kept_then a b c h k same = record {
   sound = k.sound;
   once = k.once;
   falls = record { files = omega (arith, h.falls.files, k.falls.files); keys = omega (arith, h.falls.keys, k.falls.keys); objects = λ target. omega (arith, h.falls.objects target, k.falls.objects target); targets = k.falls.targets ∙ h.falls.targets };
+  layouts = subst (λ (files : List File). AreExplained a files) (sym same) h.layouts;
 }
 
 pub meta_servers : (client : ℕ) (m new : MetaView) (targets : List TargetState) → Kept m new → Leaves client m new → AreServers m targets → AreServers new targets

@@ -15,6 +15,7 @@ use Rattle.meta_server.specs.declared.answers.Opened.{Opened}
 use Rattle.meta_server.specs.Conditions.{HasGenerationRoom, HasObjectRoom, IsRoom}
 use Rattle.meta_server.specs.Files.{File, MetaView, file_of}
 use Rattle.meta_server.specs.Sound.{IsSound}
+use Rattle.meta_laws.specs.Layouts.{AreExplained}
 use Rattle.meta_laws.specs.Numbers.{AreObjectsOnce}
 use Rattle.flr_numbers.specs.Frames.{IsShared, IsUnmade, Leases, Leaves, Stands}
 use Rattle.call_steps.specs.Servers.{Servers, target_at}
@@ -106,11 +107,12 @@ pub record Changes (client : ℕ) (m : MetaView) (held : List Lock) (new : MetaV
   pub many : length new.nexts ≡ length m.nexts
   pub locks : (other : ℕ) → other ≢ client → locks_of other left ≡ locks_of other held
 
--- the servers after a step, what the client has in hand then, and what the step left to all others
+-- the servers after a step, what the client has in hand then, what the step left to all others, and what each layout comes from
 pub record Good (client : ℕ) (s : Servers) (h : Hand) (after : Servers) : Type 0 where
   pub servers : AreServers after.meta after.targets
   pub has : Has client after.meta after.locks h
   pub changes : Changes client s.meta s.locks after.meta after.locks
+  pub layouts : AreExplained s.meta after.meta.files
 
 -- a step of a call came to something good: who goes on has in hand what the next call has, and is sound; who has ended has nothing
 abbrev pub Fine : {C : Type 0} → ℕ → (C → Hand) → (C → Type 0) → Servers → Outcome C → Type 0

@@ -15,6 +15,7 @@ use Rattle.meta_server.specs.Opening.{change_opens_file, most_bytes}
 use Rattle.meta_laws.specs.Calls.{Call, OpenRead, OpenWrite, OpenCut, Free, Confirm, Commit, Cut, BeginCopy, CopyDone, MergeDone, GiveUp, Create, Remove, Set, Evict, after_call, confirmed, left_by}
 use Rattle.meta_laws.proofs.Cases.{begin_cases, create_cases, end_cases, merge_cases, open_cases, read_cases, remove_cases, set_cases}
 use Rattle.meta_laws.proofs.Covering.{all_filter, all_push}
+use Rattle.script_values.specs.declared.command.Command.{Command}
 use Rattle.flr_steps.specs.declared.client.Client.{Client}
 use Rattle.flr_steps.specs.States.{client_at}
 use Rattle.flr_places.specs.Sentences.{IsPlaced}
@@ -89,29 +90,29 @@ module _ (clients : List Client) (now c : ℕ) (client : Client) (here : client_
     confirms file cookie false = stays
 
     -- a call of this client at this place leaves each key with its place
-    pub call_places : (call : Call) → IsAskedAt c now call → Keys clients now (after_call call m)
-    call_places (OpenRead other name) well = read_cases (Keys clients now) other name m (record { same = stays; shared = λ f e. stays })
-    call_places (OpenWrite other name range step) well = opened other name range step (nat_lt most_bytes range.end) well
-    call_places (OpenCut other name size step) well = opened other name (record { start = size; end = eof }) step (nat_lt most_bytes size) well
-    call_places (Free file cookie) well = stays
-    call_places (Confirm file cookie) well = confirms file cookie (holds file cookie m)
-    call_places (Commit file cookie end) well = stays
-    call_places (Cut file cookie size) well = stays
-    call_places (BeginCopy other name what) well = subst (λ k. Keys clients now (after_call (BeginCopy k name what) m)) (sym well.0) (begin_cases (Keys clients now) c name what m (record {
+    pub call_places : (asked : Command) (call : Call) → IsAskedAt asked c now call → Keys clients now (after_call call m)
+    call_places asked (OpenRead other name) well = read_cases (Keys clients now) other name m (record { same = stays; shared = λ f e. stays })
+    call_places asked (OpenWrite other name range step) well = opened other name range step (nat_lt most_bytes range.end) well
+    call_places asked (OpenCut other name size step) well = opened other name (record { start = size; end = eof }) step (nat_lt most_bytes size) well
+    call_places asked (Free file cookie) well = stays
+    call_places asked (Confirm file cookie) well = confirms file cookie (holds file cookie m)
+    call_places asked (Commit file cookie end) well = stays
+    call_places asked (Cut file cookie size) well = stays
+    call_places asked (BeginCopy other name what) well = subst (λ k. Keys clients now (after_call (BeginCopy k name what) m)) (sym well.0) (begin_cases (Keys clients now) c name what m (record {
       same = stays;
       begins = λ ids f e free. takes f.number m.leases stays;
       adds = λ mirrors f is e free within. stays;
       extends = λ mirrors ids f is e free within. takes f.number m.leases stays;
       both = λ victim f v is e k free free_too. takes v.number (taken c f.number m.leases) (takes f.number m.leases stays);
     }))
-    call_places (CopyDone key cleared) well = end_cases (Keys clients now) key cleared m (record { same = stays; given = given_up m key stays; done = λ f held e. given_up m key stays })
-    call_places (MergeDone ours theirs) well = merge_cases (Keys clients now) ours theirs m (record { same = stays; given = both_up m ours theirs stays; merges = λ f v held held_too e k. both_up m ours theirs stays })
-    call_places (GiveUp key) well = given_up m key stays
-    call_places (Create name mirrors) well = create_cases (Keys clients now) name mirrors m (record { same = stays; comes = λ absent room. stays })
-    call_places (Remove other name mirror to step) well = remove_cases (Keys clients now) other name mirror step m (record {
+    call_places asked (CopyDone key cleared) well = end_cases (Keys clients now) key cleared m (record { same = stays; given = given_up m key stays; done = λ f held e. given_up m key stays })
+    call_places asked (MergeDone ours theirs) well = merge_cases (Keys clients now) ours theirs m (record { same = stays; given = both_up m ours theirs stays; merges = λ f v held held_too e k. both_up m ours theirs stays })
+    call_places asked (GiveUp key) well = given_up m key stays
+    call_places asked (Create name mirrors) well = create_cases (Keys clients now) name mirrors m (record { same = stays; comes = λ absent room. stays })
+    call_places asked (Remove other name mirror to step) well = remove_cases (Keys clients now) other name mirror step m (record {
       same = stays;
       goes = λ f e kept. of_file f.number step well;
       splits = λ new f e kept fresh absent room. of_file f.number step well;
     }) to
-    call_places (Set other name id change step) well = set_cases (Keys clients now) other name id change step m (record { same = stays; marks = λ f e kept. of_file f.number step well })
-    call_places (Evict other step) well = of_client other step well
+    call_places asked (Set other name id change step) well = set_cases (Keys clients now) other name id change step m (record { same = stays; marks = λ f e kept. of_file f.number step well })
+    call_places asked (Evict other step) well = of_client other step well.0

@@ -1,5 +1,5 @@
 -- What each step of a client's call leaves of the metadata server.
-use Rattle.std.proofs.Common.{◌≡◌, ℕ, Option, Some, None, List, refl}
+use Rattle.std.proofs.Common.{◌≡◌, ℕ, Option, Some, None, IfSome, List, refl}
 use Rattle.flr_base.specs.declared.reply.Reply.{Reply}
 use Rattle.flr_base.specs.declared.reply.Reply.TheVariants as reply
 use Rattle.layout_lease.specs.Leases.{KeyView}
@@ -23,10 +23,12 @@ use Rattle.mirror_verify.specs.Verifies.{verify_step}
 use Rattle.resync_copy.specs.Steps.{copy_step}
 use Rattle.call_steps.specs.Servers.{Servers}
 use Rattle.call_steps.specs.Steps.{Outcome, Going, Fixed, Ended, Answered, Blocked, widen}
-use Rattle.flr_numbers.specs.Sentences.{IsCallOf}
+use Rattle.flr_numbers.specs.Sentences.{IsCallOf, hand_of}
 use Rattle.flr_steps.specs.declared.client.Running.{Running}
 use Rattle.flr_steps.specs.declared.client.Running.TheVariants as running
 use Rattle.flr_steps.specs.Commands.{answered_by, at_once, step_of}
+use Rattle.flr_steps.specs.Owners.{AreOwn}
+use Rattle.flr_places.specs.Sentences.{IsCookieOf}
 use Rattle.flr_places.proofs.CopySteps.{copy_leaves}
 use Rattle.flr_places.proofs.Steps.{AfterCalls, IsAskedAt, OnMeta, by_call, read_leaves, truncate_leaves, verify_leaves, write_leaves}
 
@@ -37,12 +39,12 @@ widened P f (Ended after) h = h
 widened P f (Answered reply takes after) h = h
 widened P f (Blocked holder) h = tt
 
-module _ (P : MetaView → Type 0) (client place : ℕ) (s : Servers) (h : AfterCalls P client place s.meta) (gives : (ours theirs : KeyView) → P (both_given ours theirs s.meta)) where
+module _ (P : MetaView → Type 0) (asked : Command) (client place : ℕ) (s : Servers) (h : AfterCalls P asked client place s.meta) (gives : (ours theirs : KeyView) → P (both_given ours theirs s.meta)) where
   -- ---- commands of one step
 
   -- an answer of the metadata server to this call
-  answer_by : (call : Call) (o : meta.Outcome Reply) → IsAskedAt client place call → after_call call s.meta ≡ left_by o s.meta → OnMeta P (answered_by s o)
-  answer_by call (Gives answer after) well e = by_call P client place s.meta after h call well e
+  answer_by : (call : Call) (o : meta.Outcome Reply) → IsAskedAt asked client place call → after_call call s.meta ≡ left_by o s.meta → OnMeta P (answered_by s o)
+  answer_by call (Gives answer after) well e = by_call P asked client place s.meta after h call well e
   answer_by call (Refuses answer) well e = h.same
   answer_by call (Waits holder) well e = tt
 
@@ -75,20 +77,20 @@ module _ (P : MetaView → Type 0) (client place : ℕ) (s : Servers) (h : After
   lfs_leaves (lfs.Resync name only) = h.same
   lfs_leaves (lfs.Verify name) = h.same
 
-  once_leaves : (asked : Command) → OnMeta P (at_once client asked place s)
-  once_leaves (command.Read name offset len) = tt
-  once_leaves (command.Write name offset bytes) = tt
-  once_leaves (command.Truncate name size) = tt
-  once_leaves (command.Lfs of) = lfs_leaves of
-  once_leaves (command.Evict other) = h.calls (Evict other place) refl
-  once_leaves (command.Rot object offset byte) = h.same
+  once_leaves : (of : Command) → asked ≡ of → OnMeta P (at_once client of place s)
+  once_leaves (command.Read name offset len) is = tt
+  once_leaves (command.Write name offset bytes) is = tt
+  once_leaves (command.Truncate name size) is = tt
+  once_leaves (command.Lfs of) is = lfs_leaves of
+  once_leaves (command.Evict other) is = h.calls (Evict other place) (refl, is)
+  once_leaves (command.Rot object offset byte) is = h.same
 
   -- ---- each step
 
-  pub step_leaves : (call : Running) (asked : Command) → IsCallOf client call → OnMeta P (step_of call client asked place s)
-  step_leaves running.Idle asked is = once_leaves asked
-  step_leaves (running.Read call) asked is = widened P running.Read (read_step call place s) (read_leaves P client place s h call call.at)
-  step_leaves (running.Write call) asked is = widened P running.Write (write_step call place s) (write_leaves P client place s h call call.at)
-  step_leaves (running.Truncate call) asked is = widened P running.Truncate (truncate_step call place s) (truncate_leaves P client place s h call call.at)
-  step_leaves (running.Copy call) asked is = widened P running.Copy (copy_step call place s) (copy_leaves P client place s h gives call (is.0, is.1) call.at)
-  step_leaves (running.Verify call) asked is = widened P running.Verify (verify_step call place s) (verify_leaves P client place s h call call.at)
+  pub step_leaves : (call : Running) → IsCallOf client call → IfSome (hand_of call).opened (IsCookieOf client) → AreOwn client (hand_of call).keys → OnMeta P (step_of call client asked place s)
+  step_leaves running.Idle is cookie keys = once_leaves asked refl
+  step_leaves (running.Read call) is cookie keys = widened P running.Read (read_step call place s) (read_leaves P asked client place s h call call.at cookie)
+  step_leaves (running.Write call) is cookie keys = widened P running.Write (write_step call place s) (write_leaves P asked client place s h call call.at cookie)
+  step_leaves (running.Truncate call) is cookie keys = widened P running.Truncate (truncate_step call place s) (truncate_leaves P asked client place s h call call.at cookie)
+  step_leaves (running.Copy call) is cookie keys = widened P running.Copy (copy_step call place s) (copy_leaves P asked client place s h gives call (is.0, is.1) call.at keys)
+  step_leaves (running.Verify call) is cookie keys = widened P running.Verify (verify_step call place s) (verify_leaves P asked client place s h call call.at cookie)

@@ -36,13 +36,16 @@ use Rattle.resync_copy.specs.Copies.{ends_copy, fences_object, first_writer, obj
 use Rattle.resync_copy.specs.Merges.{ends_merge, merge_ends_with, merge_fences_object, merge_settled, merge_settles, merge_stage_at, our_piece, takes_ours, takes_theirs, their_piece}
 use Rattle.resync_copy.specs.Steps.{begins, copy_at}
 use Rattle.resync_copy.specs.Views.{CopyingView, fences_of, resets_of}
+use Rattle.script_values.specs.declared.command.Command.{Command}
+use Rattle.flr_numbers.specs.Copies.{copy_hand, merge_hand}
+use Rattle.flr_steps.specs.Owners.{AreOwn}
 use Rattle.flr_places.proofs.Steps.{AfterCalls, OnMeta, by_call}
 
-module _ (P : MetaView → Type 0) (client place : ℕ) (s : Servers) (h : AfterCalls P client place s.meta) (gives : (ours theirs : KeyView) → P (both_given ours theirs s.meta)) (c : CopyView) where
+module _ (P : MetaView → Type 0) (asked : Command) (client place : ℕ) (s : Servers) (h : AfterCalls P asked client place s.meta) (gives : (ours theirs : KeyView) → P (both_given ours theirs s.meta)) (c : CopyView) where
   begun_by : (c.client ≡ client) × IsCopyOf c.name c.what → (o : meta.Outcome Begun) → copy_begins c.client c.name c.what s.meta ≡ o → OnMeta P (begins c s o)
-  begun_by copy (Gives begun_as.Nothing after) e = by_call P client place s.meta after h (BeginCopy c.client c.name c.what) copy (ap (λ (o : meta.Outcome Begun). left_by o s.meta) e)
-  begun_by copy (Gives (begun_as.Copy side ids) after) e = by_call P client place s.meta after h (BeginCopy c.client c.name c.what) copy (ap (λ (o : meta.Outcome Begun). left_by o s.meta) e)
-  begun_by copy (Gives (begun_as.Merge ours theirs) after) e = by_call P client place s.meta after h (BeginCopy c.client c.name c.what) copy (ap (λ (o : meta.Outcome Begun). left_by o s.meta) e)
+  begun_by copy (Gives begun_as.Nothing after) e = by_call P asked client place s.meta after h (BeginCopy c.client c.name c.what) copy (ap (λ (o : meta.Outcome Begun). left_by o s.meta) e)
+  begun_by copy (Gives (begun_as.Copy side ids) after) e = by_call P asked client place s.meta after h (BeginCopy c.client c.name c.what) copy (ap (λ (o : meta.Outcome Begun). left_by o s.meta) e)
+  begun_by copy (Gives (begun_as.Merge ours theirs) after) e = by_call P asked client place s.meta after h (BeginCopy c.client c.name c.what) copy (ap (λ (o : meta.Outcome Begun). left_by o s.meta) e)
   begun_by copy (Refuses refusal) e = h.same
   begun_by copy (Waits holder) e = tt
 
@@ -73,8 +76,8 @@ module _ (P : MetaView → Type 0) (client place : ℕ) (s : Servers) (h : After
   puts k bytes p answer.Failed = h.same
 
   ends : (key : KeyView) (cleared : List ℕ) (left : List Left) (o : Ending (Unit {0})) → copy_ends key cleared s.meta ≡ o → OnMeta P (ends_copy c s cleared left o)
-  ends key cleared left (Ends done after) e = by_call P client place s.meta after h (CopyDone key cleared) tt (ap (λ (o : Ending (Unit {0})). left_at o s.meta) e)
-  ends key cleared left (Breaks step after) e = by_call P client place s.meta after h (CopyDone key cleared) tt (ap (λ (o : Ending (Unit {0})). left_at o s.meta) e)
+  ends key cleared left (Ends done after) e = by_call P asked client place s.meta after h (CopyDone key cleared) tt (ap (λ (o : Ending (Unit {0})). left_at o s.meta) e)
+  ends key cleared left (Breaks step after) e = by_call P asked client place s.meta after h (CopyDone key cleared) tt (ap (λ (o : Ending (Unit {0})). left_at o s.meta) e)
   ends key cleared left (Holds holder) e = tt
 
   by_stage : (next : CopyStage) → OnMeta P (stage_at next c s)
@@ -106,25 +109,25 @@ module _ (P : MetaView → Type 0) (client place : ℕ) (s : Servers) (h : After
   taking_theirs p ours q (answer.Old kept) = h.same
   taking_theirs p ours q answer.Failed = h.same
 
-  merge_ending : (ours theirs : KeyView) (o : Ending (List ℕ)) → merge_ends ours theirs s.meta ≡ o → OnMeta P (ends_merge c s o)
-  merge_ending ours theirs (Ends ids after) e = by_call P client place s.meta after h (MergeDone ours theirs) tt (ap (λ (o : Ending (List ℕ)). left_at o s.meta) e)
-  merge_ending ours theirs (Breaks step after) e = by_call P client place s.meta after h (MergeDone ours theirs) tt (ap (λ (o : Ending (List ℕ)). left_at o s.meta) e)
-  merge_ending ours theirs (Holds holder) e = tt
+  merge_ending : (ours theirs : KeyView) (o : Ending (List ℕ)) → ours.client ≡ client → merge_ends ours theirs s.meta ≡ o → OnMeta P (ends_merge c s o)
+  merge_ending ours theirs (Ends ids after) own e = by_call P asked client place s.meta after h (MergeDone ours theirs) own (ap (λ (o : Ending (List ℕ)). left_at o s.meta) e)
+  merge_ending ours theirs (Breaks step after) own e = by_call P asked client place s.meta after h (MergeDone ours theirs) own (ap (λ (o : Ending (List ℕ)). left_at o s.meta) e)
+  merge_ending ours theirs (Holds holder) own e = tt
 
-  merge_done : (ours theirs : KeyView) (refusal : Option Reply) → OnMeta P (merge_ends_with c s ours theirs refusal)
-  merge_done ours theirs (Some kept) = gives ours theirs
-  merge_done ours theirs None = merge_ending ours theirs (merge_ends ours theirs s.meta) refl
+  merge_done : (ours theirs : KeyView) (refusal : Option Reply) → ours.client ≡ client → OnMeta P (merge_ends_with c s ours theirs refusal)
+  merge_done ours theirs (Some kept) own = gives ours theirs
+  merge_done ours theirs None own = merge_ending ours theirs (merge_ends ours theirs s.meta) own refl
 
-  by_merge : (next : MergeStage) → OnMeta P (merge_stage_at next c s)
-  by_merge (merge.Fence x next) = merge_fencing x next (object_at (merge_fences x) next).object (fence_answer (target_of s (object_at (merge_fences x) next).object))
-  by_merge (merge.Settle x) = merge_settling x (first_writer s.locks c.client (merge_fences x)) (merge_settled x (size_of x.ours.file s.meta) (size_of x.theirs.file s.meta))
-  by_merge (merge.TakeOurs p) = taking_ours p (our_piece p) (read_answer (target_of s (object_of (our_piece p))))
-  by_merge (merge.TakeTheirs p ours) = taking_theirs p ours (their_piece p) (read_answer (target_of s (object_of (their_piece p))))
-  by_merge (merge.Done ours theirs refusal) = merge_done ours theirs refusal
+  by_merge : (next : MergeStage) → AreOwn client (merge_hand next).keys → OnMeta P (merge_stage_at next c s)
+  by_merge (merge.Fence x next) own = merge_fencing x next (object_at (merge_fences x) next).object (fence_answer (target_of s (object_at (merge_fences x) next).object))
+  by_merge (merge.Settle x) own = merge_settling x (first_writer s.locks c.client (merge_fences x)) (merge_settled x (size_of x.ours.file s.meta) (size_of x.theirs.file s.meta))
+  by_merge (merge.TakeOurs p) own = taking_ours p (our_piece p) (read_answer (target_of s (object_of (our_piece p))))
+  by_merge (merge.TakeTheirs p ours) own = taking_theirs p ours (their_piece p) (read_answer (target_of s (object_of (their_piece p))))
+  by_merge (merge.Done ours theirs refusal) own = merge_done ours theirs refusal own.0
 
   -- ---- each step
 
-  pub copy_leaves : (c.client ≡ client) × IsCopyOf c.name c.what → (at : CopyAt) → OnMeta P (copy_at at c s)
-  copy_leaves copy at.Begin = begun_by copy (copy_begins c.client c.name c.what s.meta) refl
-  copy_leaves copy (at.Copy next) = by_stage next
-  copy_leaves copy (at.Merge next) = by_merge next
+  pub copy_leaves : (c.client ≡ client) × IsCopyOf c.name c.what → (at : CopyAt) → AreOwn client (copy_hand at).keys → OnMeta P (copy_at at c s)
+  copy_leaves copy at.Begin own = begun_by copy (copy_begins c.client c.name c.what s.meta) refl
+  copy_leaves copy (at.Copy next) own = by_stage next
+  copy_leaves copy (at.Merge next) own = by_merge next own

@@ -18,15 +18,16 @@ use Rattle.flr_steps.specs.declared.client.Running.{Running}
 use Rattle.flr_steps.specs.declared.client.Running.TheVariants as running
 use Rattle.flr_steps.specs.Clients.{call_now, entry, first_now, going, over}
 use Rattle.flr_steps.specs.Commands.{step_of}
+use Rattle.flr_steps.specs.Owners.{AreOwn}
 use Rattle.flr_steps.specs.States.{State, client_at, place_in, stepped}
 use Rattle.flr_steps.specs.Steps.{LeavesState, StepIs}
-use Rattle.flr_numbers.specs.Sentences.{HasRoom, Holds, IsCallOf}
-use Rattle.flr_numbers.specs.Sentences as sentences
-use Rattle.flr_numbers.proofs.Clients.{is_now}
+use Rattle.flr_numbers.specs.Sentences.{HasRoom, Holds, IsCallOf, hand_of}
+use Rattle.flr_numbers.proofs.Clients.{has_now, is_now}
 use Rattle.flr_numbers.proofs.Commands.{is_command}
-use Rattle.flr_places.specs.Sentences.{IsPlaced, Placed}
+use Rattle.flr_places.specs.Sentences.{IsCookieOf, IsPlaced, Placed}
 use Rattle.flr_places.proofs.Calls.{Keys, MayBreak, both_up, call_places, stays}
 use Rattle.flr_places.proofs.Commands.{step_leaves}
+use Rattle.flr_places.proofs.Opened.{OfOpen, OnOpen, now_open, step_on}
 use Rattle.flr_places.proofs.Steps.{OnMeta}
 
 -- ---- lists
@@ -47,25 +48,25 @@ set_other (w ∷ ws) zero (suc j) y apart = refl
 set_other (w ∷ ws) (suc i) zero y apart = refl
 set_other (w ∷ ws) (suc i) (suc j) y apart = set_other ws i j y (λ same. apart (ap suc same))
 
-new_same : (clients : List Client) (c : ℕ) (client new : Client) → client_at clients c ≡ Some client → client_at (set clients (c - 1) new) c ≡ Some new
+pub new_same : (clients : List Client) (c : ℕ) (client new : Client) → client_at clients c ≡ Some client → client_at (set clients (c - 1) new) c ≡ Some new
 new_same clients zero client new e = absurd (cc)
 new_same clients (suc c) client new e =
     let one : suc c - 1 ≡ c = omega arith in
     subst (λ i. slice_get (set clients i new) c ≡ Some new) (sym one) (set_same clients c client new e)
 
-new_other : (clients : List Client) (c k : ℕ) (client new : Client) → client_at clients c ≡ Some client → k ≢ c → client_at (set clients (c - 1) new) k ≡ client_at clients k
+pub new_other : (clients : List Client) (c k : ℕ) (client new : Client) → client_at clients c ≡ Some client → k ≢ c → client_at (set clients (c - 1) new) k ≡ client_at clients k
 new_other clients zero k client new here apart = absurd (cc)
 new_other clients (suc c) zero client new here apart = refl
 new_other clients (suc c) (suc k) client new here apart =
     let one : suc c - 1 ≡ c = omega arith in
     subst (λ i. slice_get (set clients i new) k ≡ slice_get clients k) (sym one) (set_other clients c k new (λ same. apart (ap suc same)))
 
-some_same : (x y : Client) → Some x ≡ Some y → x ≡ y
+pub some_same : (x y : Client) → Some x ≡ Some y → x ≡ y
 some_same x y e = cc
 
 -- ---- where a call began
 
-first_kept : (call : Running) (place first : ℕ) → (call ≡ running.Idle → ⊥) → first_now call place first ≡ first
+pub first_kept : (call : Running) (place first : ℕ) → (call ≡ running.Idle → ⊥) → first_now call place first ≡ first
 first_kept running.Idle place first busy = absurd (busy refl)
 first_kept (running.Read call) place first busy = refl
 first_kept (running.Write call) place first busy = refl
@@ -73,7 +74,7 @@ first_kept (running.Truncate call) place first busy = refl
 first_kept (running.Copy call) place first busy = refl
 first_kept (running.Verify call) place first busy = refl
 
-first_low : (call : Running) (place first : ℕ) → first ≤ place → first_now call place first ≤ place
+pub first_low : (call : Running) (place first : ℕ) → first ≤ place → first_now call place first ≤ place
 first_low running.Idle place first low = omega arith
 first_low (running.Read call) place first low = low
 first_low (running.Write call) place first low = low
@@ -126,42 +127,60 @@ module _ (s : State) (c : ℕ) (client : Client) (k : Placed s) (here : client_a
               before = omega (arith, low);
             }
 
-    stepped_places : (after : Servers) (note : Note) → Keys (set s.clients (c - 1) new) (place_in s) after.meta → Placed (stepped s c new after note)
-    stepped_places after note keys = record {
+    stepped_places : (after : Servers) (note : Note) → Keys (set s.clients (c - 1) new) (place_in s) after.meta → OfOpen (IsCookieOf c) new.call → Placed (stepped s c new after note)
+    stepped_places after note keys own = record {
       keys = subst (λ n. AllByRecursion (IsPlaced (set s.clients (c - 1) new) n) after.meta.leases.keys) (sym long) keys;
       began = λ n other e. by n other e (cases_eq n c);
+      cookies = λ n other e. cookie n other e (cases_eq n c);
     }
       where
         long : length (s.schedule ++ c ∷ []) ≡ place_in s
         long = length-append s.schedule (c ∷ [])
 
+        -- the client that stepped is the new one
+        one : (n : ℕ) (other : Client) → client_at (set s.clients (c - 1) new) n ≡ Some other → n ≡ c → other ≡ new
+        one n other e same =
+            let found : client_at (set s.clients (c - 1) new) n ≡ Some new = subst (λ i. client_at (set s.clients (c - 1) new) i ≡ Some new) (sym same) (new_same s.clients c client new here) in
+            some_same other new (sym e ∙ found)
+
         by : (n : ℕ) (other : Client) → client_at (set s.clients (c - 1) new) n ≡ Some other → (n ≡ c) ⊎ (n ≡ c → ⊥) → other.first ≤ length (s.schedule ++ c ∷ [])
         by n other e (inl same) =
-            let found : client_at (set s.clients (c - 1) new) n ≡ Some new = subst (λ i. client_at (set s.clients (c - 1) new) i ≡ Some new) (sym same) (new_same s.clients c client new here) in
-            let one : other.first ≡ new.first = ap (λ (x : Client). x.first) (some_same other new (sym e ∙ found)) in
+            let level : other.first ≡ new.first = ap (λ (x : Client). x.first) (one n other e same) in
             let old = k.began c client here in
             let low = first_low client.call (place_in s) client.first (omega (arith, old)) in
-            omega (arith, one, is, low, long)
+            omega (arith, level, is, low, long)
         by n other e (inr apart) =
             let low = k.began n other (sym (new_other s.clients c n client new here apart) ∙ e) in
             omega (arith, low, long)
 
-  module _ (h : Holds s) (asked : Command) (of : IsCallOf c (call_now c client.call asked)) where
+        cookie : (n : ℕ) (other : Client) → client_at (set s.clients (c - 1) new) n ≡ Some other → (n ≡ c) ⊎ (n ≡ c → ⊥) → OfOpen (IsCookieOf n) other.call
+        cookie n other e (inl same) = subst (λ i. OfOpen (IsCookieOf i) other.call) (sym same) (subst (λ (x : Client). OfOpen (IsCookieOf c) x.call) (sym (one n other e same)) own)
+        cookie n other e (inr apart) = k.cookies n other (sym (new_other s.clients c n client new here apart) ∙ e)
+
+  module _ (h : Holds s) (asked : Command) (of : IsCallOf c (call_now c client.call asked)) (keys : AreOwn c (hand_of (call_now c client.call asked)).keys) where
+    -- the cookie of the call that steps is its client's
+    mine : OfOpen (IsCookieOf c) (call_now c client.call asked)
+    mine = now_open (IsCookieOf c) c asked client.call (k.cookies c client here)
+
+    -- and stays so
+    keeps : OnOpen (λ m. IsCookieOf c) (λ (x : Running). x) (step_of (call_now c client.call asked) c asked (place_in s) s.shared)
+    keeps = step_on (λ m. IsCookieOf c) c s.shared h.servers.sound (λ other m f same there. same) (place_in s) (call_now c client.call asked) asked of mine
+
     -- what the step leaves of the keys
     leaves : (new : Client) → new.first ≡ first_now client.call (place_in s) client.first
         → OnMeta (Keys (set s.clients (c - 1) new) (place_in s)) (step_of (call_now c client.call asked) c asked (place_in s) s.shared)
     leaves new is =
         let clients : List Client = set s.clients (c - 1) new in
-        let mine : client_at clients c ≡ Some new = new_same s.clients c client new here in
+        let there : client_at clients c ≡ Some new = new_same s.clients c client new here in
         let has = (h.clients c client here).has in
-        let busy = all_busy (client.call ≡ running.Idle) c s.shared.meta.leases.keys (λ idle. has.keys ∙ ap (λ (call : Running). (sentences.hand_of call).keys) idle) in
+        let busy = all_busy (client.call ≡ running.Idle) c s.shared.meta.leases.keys (λ idle. has.keys ∙ ap (λ (call : Running). (hand_of call).keys) idle) in
         let may = all_both (IsPlaced s.clients (length s.schedule)) (λ (lease : Lease). lease.client ≡ c → client.call ≡ running.Idle → ⊥) (MayBreak clients (place_in s)) s.shared.meta.leases.keys (may_break new is) k.keys busy in
-        let now = stays clients (place_in s) c new mine s.shared.meta may in
-        step_leaves (Keys clients (place_in s)) c (place_in s) s.shared (record { same = now; calls = call_places clients (place_in s) c new mine s.shared.meta may })
-        (λ ours theirs. both_up clients (place_in s) c new mine s.shared.meta ours theirs now) (call_now c client.call asked) asked of
+        let now = stays clients (place_in s) c new there s.shared.meta may in
+        step_leaves (Keys clients (place_in s)) asked c (place_in s) s.shared (record { same = now; calls = call_places clients (place_in s) c new there s.shared.meta may asked })
+        (λ ours theirs. both_up clients (place_in s) c new there s.shared.meta ours theirs now) (call_now c client.call asked) of mine keys
 
     left_places : (came : Outcome Running) (t : State) → step_of (call_now c client.call asked) c asked (place_in s) s.shared ≡ came → LeavesState s c client (first_now client.call (place_in s) client.first) came t → Placed t
-    left_places came t made left = by came made left
+    left_places came t made left = by came made (subst (λ (o : Outcome Running). OnOpen (λ m. IsCookieOf c) (λ (x : Running). x) o) made keeps) left
       where
         first : ℕ
         first = first_now client.call (place_in s) client.first
@@ -169,12 +188,12 @@ module _ (s : State) (c : ℕ) (client : Client) (k : Placed s) (here : client_a
         at : (new : Client) → new.first ≡ first → (came : Outcome Running) → step_of (call_now c client.call asked) c asked (place_in s) s.shared ≡ came → OnMeta (Keys (set s.clients (c - 1) new) (place_in s)) came
         at new is came made = subst (λ (o : Outcome Running). OnMeta (Keys (set s.clients (c - 1) new) (place_in s)) o) made (leaves new is)
 
-        by : (came : Outcome Running) → step_of (call_now c client.call asked) c asked (place_in s) s.shared ≡ came → LeavesState s c client first came t → Placed t
-        by (Going next after) made left = subst Placed (sym left) (stepped_places (going client first next) refl after Nothing (at (going client first next) refl (Going next after) made))
-        by (Fixed next reply takes after) made left = subst Placed (sym left) (stepped_places (going client first next) refl after (Adds (entry c client first (place_in s) 0 reply takes)) (at (going client first next) refl (Fixed next reply takes after) made))
-        by (Ended after) made left = subst Placed (sym left) (stepped_places (over client first) refl after Closes (at (over client first) refl (Ended after) made))
-        by (Answered reply takes after) made left = subst Placed (sym left) (stepped_places (over client first) refl after (Adds (entry c client first (place_in s) (place_in s) reply takes)) (at (over client first) refl (Answered reply takes after) made))
-        by (Blocked holder) made left = absurd left
+        by : (came : Outcome Running) → step_of (call_now c client.call asked) c asked (place_in s) s.shared ≡ came → OnOpen (λ m. IsCookieOf c) (λ (x : Running). x) came → LeavesState s c client first came t → Placed t
+        by (Going next after) made own left = subst Placed (sym left) (stepped_places (going client first next) refl after Nothing (at (going client first next) refl (Going next after) made) own)
+        by (Fixed next reply takes after) made own left = subst Placed (sym left) (stepped_places (going client first next) refl after (Adds (entry c client first (place_in s) 0 reply takes)) (at (going client first next) refl (Fixed next reply takes after) made) own)
+        by (Ended after) made own left = subst Placed (sym left) (stepped_places (over client first) refl after Closes (at (over client first) refl (Ended after) made) tt)
+        by (Answered reply takes after) made own left = subst Placed (sym left) (stepped_places (over client first) refl after (Adds (entry c client first (place_in s) (place_in s) reply takes)) (at (over client first) refl (Answered reply takes after) made) tt)
+        by (Blocked holder) made own left = absurd left
 
 pub step_places : (s t : State) (c : ℕ) → Holds s → HasRoom s.shared → Placed s → StepIs s c t → Placed t
 step_places s t c h room k step =
@@ -184,4 +203,5 @@ step_places s t c h room k step =
     let few = h.script.form.few_clients in
     let good : IsCommand s.script.most s.script.targets (length s.script.clients) step.asked = is_command s.script c client.done step.asked h.script step.commanded in
     let is : IsCallOf c (call_now c client.call step.asked) = is_now c s.shared step.asked s.script.most s.script.targets (length s.script.clients) le few good client.call of.call in
-    left_places s c client k step.here h step.asked is step.came t step.made step.left
+    let has = has_now c s.shared step.asked s.script.most s.script.targets (length s.script.clients) le few good client.call of.has in
+    left_places s c client k step.here h step.asked is has.own step.came t step.made step.left

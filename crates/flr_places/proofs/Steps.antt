@@ -1,5 +1,5 @@
 -- What each step of a read, a verify, a write or a truncate leaves of the metadata server: what was there, or what one call left.
-use Rattle.std.proofs.Common.{◌≡◌, ℕ, Bool, true, false, Option, Some, None, [], refl, ap, subst}
+use Rattle.std.proofs.Common.{◌≡◌, ℕ, Bool, true, false, Option, Some, None, IfSome, [], refl, ap, subst}
 use Rattle.flr_base.specs.declared.reply.FailedCall.{FailedCall}
 use Rattle.flr_base.specs.declared.reply.Range.{Range}
 use Rattle.mirror_select.specs.declared.types.Piece.{Piece}
@@ -9,11 +9,12 @@ use Rattle.object_target.specs.Calls.{read_answer}
 use Rattle.extent_lock.specs.Extents.{blocker}
 use Rattle.meta_server.specs.declared.answers.Opened.{Opened}
 use Rattle.meta_server.specs.Closing.{confirms, holds, is_there}
+use Rattle.meta_server.specs.Conditions.{IsCopyOf}
 use Rattle.meta_server.specs.Files.{File, MetaView, file_named}
 use Rattle.meta_server.specs.Opening.{cut_opens, read_opens_file, write_opens}
 use Rattle.meta_server.specs.Outcomes.{Gives, Refuses, Waits}
 use Rattle.meta_server.specs.Outcomes as meta
-use Rattle.meta_laws.specs.Calls.{BeginCopy, Call, Commit, Cut, Evict, Free, OpenCut, OpenRead, OpenWrite, Remove, Set, after_call, left_by}
+use Rattle.meta_laws.specs.Calls.{BeginCopy, Call, Commit, Confirm, Cut, Evict, Free, MergeDone, OpenCut, OpenRead, OpenWrite, Remove, Set, after_call, left_by}
 use Rattle.call_steps.specs.Pieces.{piece_at}
 use Rattle.call_steps.specs.Servers.{Servers}
 use Rattle.call_steps.specs.Steps.{Outcome, Going, Fixed, Ended, Answered, Blocked}
@@ -41,17 +42,25 @@ use Rattle.mirror_verify.specs.Blocks.{copy_at}
 use Rattle.mirror_verify.specs.Verifies.{closes, takes_copy, verify_at}
 use Rattle.mirror_verify.specs.Verifies as verifies
 use Rattle.mirror_verify.specs.Views.{VerifyView}
-use Rattle.meta_server.specs.Conditions.{IsCopyOf}
+use Rattle.script_values.specs.declared.command.Command.{Command}
+use Rattle.script_values.specs.declared.command.Command.TheVariants as command
+use Rattle.flr_numbers.specs.Calls.{cut_hand, read_hand, verify_hand, write_hand}
+use Rattle.flr_places.specs.Sentences.{IsCookieOf}
 
--- a call that this client makes at this place: what may break a lease does so at the place, and a copy is the client's, and may be asked for
-abbrev pub IsAskedAt : ℕ → ℕ → Call → Type 0
-IsAskedAt c place (OpenWrite client name range step) = step ≡ place
-IsAskedAt c place (OpenCut client name size step) = step ≡ place
-IsAskedAt c place (BeginCopy client name what) = (client ≡ c) × IsCopyOf name what
-IsAskedAt c place (Remove client name mirror to step) = step ≡ place
-IsAskedAt c place (Set client name id change step) = step ≡ place
-IsAskedAt c place (Evict client step) = step ≡ place
-IsAskedAt c place other = Unit {0}
+-- a call that this client makes at this place for this command: what may break a lease does so at the place, a cookie and a key are the client's, a copy is too, and may be asked for, and an eviction is what is asked
+abbrev pub IsAskedAt : Command → ℕ → ℕ → Call → Type 0
+IsAskedAt asked c place (OpenWrite client name range step) = step ≡ place
+IsAskedAt asked c place (OpenCut client name size step) = step ≡ place
+IsAskedAt asked c place (Free file cookie) = cookie.client ≡ c
+IsAskedAt asked c place (Confirm file cookie) = cookie.client ≡ c
+IsAskedAt asked c place (Commit file cookie end) = cookie.client ≡ c
+IsAskedAt asked c place (Cut file cookie size) = cookie.client ≡ c
+IsAskedAt asked c place (BeginCopy client name what) = (client ≡ c) × IsCopyOf name what
+IsAskedAt asked c place (MergeDone ours theirs) = ours.client ≡ c
+IsAskedAt asked c place (Remove client name mirror to step) = step ≡ place
+IsAskedAt asked c place (Set client name id change step) = step ≡ place
+IsAskedAt asked c place (Evict client step) = (step ≡ place) × (asked ≡ command.Evict client)
+IsAskedAt asked c place other = Unit {0}
 
 -- the metadata server that a step leaves, if it is made, is so
 abbrev pub OnMeta : {C : Type 0} → (MetaView → Type 0) → Outcome C → Type 0
@@ -62,21 +71,21 @@ OnMeta P (Answered reply takes after) = P after.meta
 OnMeta P (Blocked holder) = Unit {0}
 
 -- what holds of the metadata server holds after each call of the client at the place
-pub record AfterCalls (P : MetaView → Type 0) (c place : ℕ) (m : MetaView) : Type 0 where
+pub record AfterCalls (P : MetaView → Type 0) (asked : Command) (c place : ℕ) (m : MetaView) : Type 0 where
   pub same : P m
-  pub calls : (call : Call) → IsAskedAt c place call → P (after_call call m)
+  pub calls : (call : Call) → IsAskedAt asked c place call → P (after_call call m)
 
 -- what a call left
-pub by_call : (P : MetaView → Type 0) (c place : ℕ) (m new : MetaView) (h : AfterCalls P c place m) (call : Call) → IsAskedAt c place call → after_call call m ≡ new → P new
-by_call P c place m new h call well e = subst P e (h.calls call well)
+pub by_call : (P : MetaView → Type 0) (asked : Command) (c place : ℕ) (m new : MetaView) (h : AfterCalls P asked c place m) (call : Call) → IsAskedAt asked c place call → after_call call m ≡ new → P new
+by_call P asked c place m new h call well e = subst P e (h.calls call well)
 
-module _ (P : MetaView → Type 0) (c place : ℕ) (s : Servers) (h : AfterCalls P c place s.meta) where
+module _ (P : MetaView → Type 0) (asked : Command) (c place : ℕ) (s : Servers) (h : AfterCalls P asked c place s.meta) where
   -- ---- reads
 
   module _ (r : ReadView) where
     read_shares : (f : File) (o : Option ℕ) → file_named r.name s.meta.files ≡ Some f → OnMeta P (shares_file r s f o)
     read_shares f (Some byte) e = h.same
-    read_shares f None e = by_call P c place s.meta _ h (OpenRead r.client r.name) tt (ap (λ (o : Option File). left_by (read_opens_file r.client r.name s.meta o) s.meta) e)
+    read_shares f None e = by_call P asked c place s.meta _ h (OpenRead r.client r.name) tt (ap (λ (o : Option File). left_by (read_opens_file r.client r.name s.meta o) s.meta) e)
 
     read_opens : (o : Option File) → file_named r.name s.meta.files ≡ o → OnMeta P (opens_file r s o)
     read_opens None e = h.same
@@ -91,53 +100,53 @@ module _ (P : MetaView → Type 0) (c place : ℕ) (s : Servers) (h : AfterCalls
     read_takes x next p (answer.Old kept) = h.same
     read_takes x next p answer.Failed = h.same
 
-    read_others : (x : Reading) (o : Option ℕ) → OnMeta P (others_answer r s x o)
-    read_others x (Some byte) = h.calls (Free x.opened.file x.opened.cookie) tt
-    read_others x None = h.same
+    read_others : (x : Reading) (o : Option ℕ) → IsCookieOf c x.opened → OnMeta P (others_answer r s x o)
+    read_others x (Some byte) own = h.calls (Free x.opened.file x.opened.cookie) own
+    read_others x None own = h.same
 
-    read_looks : (x : Reading) (b : Bool) → OnMeta P (looks_again r s x b)
-    read_looks x false = h.same
-    read_looks x true = read_others x (unanswered x.opened.layout r.range (ids_of x.failed))
+    read_looks : (x : Reading) (b : Bool) → IsCookieOf c x.opened → OnMeta P (looks_again r s x b)
+    read_looks x false own = h.same
+    read_looks x true own = read_others x (unanswered x.opened.layout r.range (ids_of x.failed)) own
 
-    read_ends : (x : Reading) (o : Option ℕ) → OnMeta P (confirms_read r s x o)
-    read_ends x None = h.same
-    read_ends x (Some size) = h.calls (Free x.opened.file x.opened.cookie) tt
+    read_ends : (x : Reading) (o : Option ℕ) → IsCookieOf c x.opened → OnMeta P (confirms_read r s x o)
+    read_ends x None own = h.same
+    read_ends x (Some size) own = h.calls (Free x.opened.file x.opened.cookie) own
 
-    pub read_leaves : (at : ReadAt) → OnMeta P (read_at at r s)
-    read_leaves read.Open = read_opens (file_named r.name s.meta.files) refl
-    read_leaves (read.Lock x next) = read_locks x next (blocker s.locks (reads.lock_for r (piece_at x.pieces next)))
-    read_leaves (read.Take x next) = read_takes x next (piece_at x.pieces next) (read_answer (reads.target_of s (piece_at x.pieces next)))
-    read_leaves (read.Again x) = read_looks x (holds x.opened.file x.opened.cookie s.meta)
-    read_leaves (read.Confirm x) = read_ends x (confirms x.opened.file x.opened.cookie s.meta)
-    read_leaves read.UnlockAgain = h.same
-    read_leaves read.Unlock = h.same
+    pub read_leaves : (at : ReadAt) → IfSome (read_hand at).opened (IsCookieOf c) → OnMeta P (read_at at r s)
+    read_leaves read.Open own = read_opens (file_named r.name s.meta.files) refl
+    read_leaves (read.Lock x next) own = read_locks x next (blocker s.locks (reads.lock_for r (piece_at x.pieces next)))
+    read_leaves (read.Take x next) own = read_takes x next (piece_at x.pieces next) (read_answer (reads.target_of s (piece_at x.pieces next)))
+    read_leaves (read.Again x) own = read_looks x (holds x.opened.file x.opened.cookie s.meta) own
+    read_leaves (read.Confirm x) own = read_ends x (confirms x.opened.file x.opened.cookie s.meta) own
+    read_leaves read.UnlockAgain own = h.same
+    read_leaves read.Unlock own = h.same
 
   -- ---- verifies
 
   module _ (v : VerifyView) where
     verify_opens : (o : Option File) → file_named v.name s.meta.files ≡ o → OnMeta P (verifies.opens_file v s o)
     verify_opens None e = h.same
-    verify_opens (Some f) e = by_call P c place s.meta _ h (OpenRead v.client v.name) tt (ap (λ (o : Option File). left_by (read_opens_file v.client v.name s.meta o) s.meta) e)
+    verify_opens (Some f) e = by_call P asked c place s.meta _ h (OpenRead v.client v.name) tt (ap (λ (o : Option File). left_by (read_opens_file v.client v.name s.meta o) s.meta) e)
 
     verify_takes : (x : Verifying) (next : ℕ) (p : Piece) (a : CallAnswer) → OnMeta P (takes_copy v s x next p a)
     verify_takes x next p answer.Ok = h.same
     verify_takes x next p (answer.Old kept) = h.same
     verify_takes x next p answer.Failed = h.same
 
-    verify_ends : (x : Verifying) (fault : Option FailedCall) (b : Bool) → OnMeta P (closes v s x fault b)
-    verify_ends x fault false = h.same
-    verify_ends x fault true = h.calls (Free x.opened.file x.opened.cookie) tt
+    verify_ends : (x : Verifying) (fault : Option FailedCall) (b : Bool) → IsCookieOf c x.opened → OnMeta P (closes v s x fault b)
+    verify_ends x fault false own = h.same
+    verify_ends x fault true own = h.calls (Free x.opened.file x.opened.cookie) own
 
-    pub verify_leaves : (at : VerifyAt) → OnMeta P (verify_at at v s)
-    verify_leaves verify.Open = verify_opens (file_named v.name s.meta.files) refl
-    verify_leaves (verify.Take x next) = verify_takes x next (copy_at x.copies next).piece (read_answer (verifies.target_of s (copy_at x.copies next).piece))
-    verify_leaves (verify.Close x fault) = verify_ends x fault (holds x.opened.file x.opened.cookie s.meta)
+    pub verify_leaves : (at : VerifyAt) → IfSome (verify_hand at).opened (IsCookieOf c) → OnMeta P (verify_at at v s)
+    verify_leaves verify.Open own = verify_opens (file_named v.name s.meta.files) refl
+    verify_leaves (verify.Take x next) own = verify_takes x next (copy_at x.copies next).piece (read_answer (verifies.target_of s (copy_at x.copies next).piece))
+    verify_leaves (verify.Close x fault) own = verify_ends x fault (holds x.opened.file x.opened.cookie s.meta) own
 
   -- ---- writes
 
   module _ (w : WriteView) where
     write_opened : (o : meta.Outcome Opened) → write_opens w.client w.name (range_of w) place s.meta ≡ o → OnMeta P (opens w s o)
-    write_opened (Gives opened after) e = by_call P c place s.meta after h (OpenWrite w.client w.name (range_of w) place) refl (ap (λ (o : meta.Outcome Opened). left_by o s.meta) e)
+    write_opened (Gives opened after) e = by_call P asked c place s.meta after h (OpenWrite w.client w.name (range_of w) place) refl (ap (λ (o : meta.Outcome Opened). left_by o s.meta) e)
     write_opened (Refuses reply) e = h.same
     write_opened (Waits holder) e = tt
 
@@ -145,23 +154,23 @@ module _ (P : MetaView → Type 0) (c place : ℕ) (s : Servers) (h : AfterCalls
     write_locks x next (Some told) = tt
     write_locks x next None = h.same
 
-    write_commits : (x : WritingView) (end : ℕ) (came : Sent) (b : Bool) → OnMeta P (commits_write w s x end came b)
-    write_commits x end came true = h.calls (Commit x.opened.file x.opened.cookie end) tt
-    write_commits x end came false = h.same
+    write_commits : (x : WritingView) (end : ℕ) (came : Sent) (b : Bool) → IsCookieOf c x.opened → OnMeta P (commits_write w s x end came b)
+    write_commits x end came true own = h.calls (Commit x.opened.file x.opened.cookie end) own
+    write_commits x end came false own = h.same
 
-    pub write_leaves : (at : WriteAt) → OnMeta P (write_at at w place s)
-    write_leaves write.Open = write_opened (write_opens w.client w.name (range_of w) place s.meta) refl
-    write_leaves (write.Lock x next) = write_locks x next (blocker s.locks (writes.lock_for w (piece_at x.pieces next)))
-    write_leaves (write.Send x next) = h.same
-    write_leaves (write.Commit x end came) = write_commits x end came (is_there x.opened.file s.meta)
-    write_leaves write.UnlockAgain = h.same
-    write_leaves write.Unlock = h.same
+    pub write_leaves : (at : WriteAt) → IfSome (write_hand at).opened (IsCookieOf c) → OnMeta P (write_at at w place s)
+    write_leaves write.Open own = write_opened (write_opens w.client w.name (range_of w) place s.meta) refl
+    write_leaves (write.Lock x next) own = write_locks x next (blocker s.locks (writes.lock_for w (piece_at x.pieces next)))
+    write_leaves (write.Send x next) own = h.same
+    write_leaves (write.Commit x end came) own = write_commits x end came (is_there x.opened.file s.meta) own
+    write_leaves write.UnlockAgain own = h.same
+    write_leaves write.Unlock own = h.same
 
   -- ---- truncates
 
   module _ (t : TruncateView) where
     cut_opened : (o : meta.Outcome Opened) → cut_opens t.client t.name t.size place s.meta ≡ o → OnMeta P (opens_cut t s o)
-    cut_opened (Gives opened after) e = by_call P c place s.meta after h (OpenCut t.client t.name t.size place) refl (ap (λ (o : meta.Outcome Opened). left_by o s.meta) e)
+    cut_opened (Gives opened after) e = by_call P asked c place s.meta after h (OpenCut t.client t.name t.size place) refl (ap (λ (o : meta.Outcome Opened). left_by o s.meta) e)
     cut_opened (Refuses reply) e = h.same
     cut_opened (Waits holder) e = tt
 
@@ -169,19 +178,19 @@ module _ (P : MetaView → Type 0) (c place : ℕ) (s : Servers) (h : AfterCalls
     cut_locks x (Some told) = tt
     cut_locks x None = h.same
 
-    committed : (x : CuttingView) (came : Sent) → P (cut_committed t s x came).meta
-    committed x sent.All = h.calls (Cut x.opened.file x.opened.cookie t.size) tt
-    committed x (sent.Failed accepted call) = h.calls (Commit x.opened.file x.opened.cookie 0) tt
-    committed x (sent.Old accepted step) = h.calls (Commit x.opened.file x.opened.cookie 0) tt
+    committed : (x : CuttingView) (came : Sent) → IsCookieOf c x.opened → P (cut_committed t s x came).meta
+    committed x sent.All own = h.calls (Cut x.opened.file x.opened.cookie t.size) own
+    committed x (sent.Failed accepted call) own = h.calls (Commit x.opened.file x.opened.cookie 0) own
+    committed x (sent.Old accepted step) own = h.calls (Commit x.opened.file x.opened.cookie 0) own
 
-    cut_commits : (x : CuttingView) (came : Sent) (b : Bool) → OnMeta P (commits_cut t s x came b)
-    cut_commits x came true = committed x came
-    cut_commits x came false = h.same
+    cut_commits : (x : CuttingView) (came : Sent) (b : Bool) → IsCookieOf c x.opened → OnMeta P (commits_cut t s x came b)
+    cut_commits x came true own = committed x came own
+    cut_commits x came false own = h.same
 
-    pub truncate_leaves : (at : CutAt) → OnMeta P (truncate_at at t place s)
-    truncate_leaves cut.Open = cut_opened (cut_opens t.client t.name t.size place s.meta) refl
-    truncate_leaves (cut.Lock x) = cut_locks x (first_blocker (locks_for t x) s.locks)
-    truncate_leaves (cut.Punch x next) = h.same
-    truncate_leaves (cut.Commit x came) = cut_commits x came (is_there x.opened.file s.meta)
-    truncate_leaves cut.UnlockAgain = h.same
-    truncate_leaves cut.Unlock = h.same
+    pub truncate_leaves : (at : CutAt) → IfSome (cut_hand at).opened (IsCookieOf c) → OnMeta P (truncate_at at t place s)
+    truncate_leaves cut.Open own = cut_opened (cut_opens t.client t.name t.size place s.meta) refl
+    truncate_leaves (cut.Lock x) own = cut_locks x (first_blocker (locks_for t x) s.locks)
+    truncate_leaves (cut.Punch x next) own = h.same
+    truncate_leaves (cut.Commit x came) own = cut_commits x came (is_there x.opened.file s.meta) own
+    truncate_leaves cut.UnlockAgain own = h.same
+    truncate_leaves cut.Unlock own = h.same

@@ -1,5 +1,5 @@
 //! At which places keys were broken, in every state of a run: after the copy that has the key began, and up to
-//! now.
+//! now. And whose cookies calls have in hand: those of their own clients.
 #![tactic(auto)]
 
 mod laws;

@@ -61,6 +61,14 @@ module _ (m : MetaView) (h : IsSound m) where
       by o shape (inl late) = inl late
       by o shape (inr is) = inr (had o shape is)
 
+  -- two files of two names have two numbers
+  pub apart : (name : List ℕ) (what : CopyWhat) → IsCopyOf name what → (victim : List ℕ) (f v : File) → what ≡ Victim victim → file_named name m.files ≡ Some f → file_named victim m.files ≡ Some v → v.number ≡ f.number → ⊥
+  apart name what copy victim f v is e k same =
+      let found : file_of f.number m.files ≡ Some v = ap (λ n. file_of n m.files) (sym same) ∙ there_named m h victim v k in
+      let one : f ≡ v = one_file (file_of f.number m.files) f v (there_named m h name f e) found in
+      let two : IsCopyOf name (Victim victim) = subst (IsCopyOf name) is copy in
+      two (sym (name_found name m.files f e) ∙ ap (λ (y : File). y.name) one ∙ name_found victim m.files v k)
+
   begun_copy : (client : ℕ) (name : List ℕ) (what : CopyWhat) → IsCopyOf name what → Keeps m (after_call (BeginCopy client name what) m)
   begun_copy client name what copy = begin_cases (Keeps m) client name what m (record {
     same = same m;
@@ -76,16 +84,9 @@ module _ (m : MetaView) (h : IsSound m) where
         let next : AreNext mid.nexts = over_AreNext (is_named []) f.number m.nexts f.layout h.nexts in
         then m mid (with_begin client [] v mid) (λ target. numbers_grow (is_named []) f.number m.nexts f.layout.components h.nexts.some target)
         (begins m client [] f f h.nexts.some refl (there_named m h name f e) (λ o shape is. is))
-        (begins mid client [] v v next.some refl (other_found v.number f.number (with_layout (begun [] f.number m.nexts f.layout)) m.files (λ y. refl) (apart victim f v is e k) ∙ beside) (λ o shape is. is))
+        (begins mid client [] v v next.some refl (other_found v.number f.number (with_layout (begun [] f.number m.nexts f.layout)) m.files (λ y. refl) (apart name what copy victim f v is e k) ∙ beside) (λ o shape is. is))
         );
   })
-    where
-      apart : (victim : List ℕ) (f v : File) → what ≡ Victim victim → file_named name m.files ≡ Some f → file_named victim m.files ≡ Some v → v.number ≡ f.number → ⊥
-      apart victim f v is e k same =
-          let found : file_of f.number m.files ≡ Some v = ap (λ n. file_of n m.files) (sym same) ∙ there_named m h victim v k in
-          let one : f ≡ v = one_file (file_of f.number m.files) f v (there_named m h name f e) found in
-          let two : IsCopyOf name (Victim victim) = subst (IsCopyOf name) is copy in
-          two (sym (name_found name m.files f e) ∙ ap (λ (y : File). y.name) one ∙ name_found victim m.files v k)
 
   ended : (key : KeyView) (cleared : List ℕ) → Keeps m (after_call (CopyDone key cleared) m)
   ended key cleared = end_cases (Keeps m) key cleared m (record {

@@ -50,7 +50,7 @@ step_keeps s t c h room step =
     left_keeps s c client (first_now client.call (place_in s) client.first) step.came t (subst (λ (o : Outcome Running). OnMeta (Keeps m) o) step.made keeps) step.left
 
 -- an object that stands in a file was made
-standing_made : (m : MetaView) (o : ObjectId) (shape : Shape) → AreObjectsOnce m → IsShapeOf m o shape → IsUnmade m o → ⊥
+pub standing_made : (m : MetaView) (o : ObjectId) (shape : Shape) → AreObjectsOnce m → IsShapeOf m o shape → IsUnmade m o → ⊥
 standing_made m o shape once is late =
     let made : o.number < get_or m.nexts o.target 0 = file_made m is.number is.file once is.there o (stripe_counted o shape is.file.layout.components is.has) in
     absurd (omega (arith, made, late))

@@ -7,7 +7,7 @@ use Rattle.flr_steps.specs.Steps.{StepIs}
 use Rattle.flr_numbers.specs.Hands.{AreMade}
 use Rattle.flr_numbers.specs.Laws.{LeaveRoom}
 use Rattle.flr_numbers.specs.Sentences.{HasRoom, Holds}
-use Rattle.flr_shapes.specs.Sentences.{Agree, AgreesWith, Keeps}
+use Rattle.flr_shapes.specs.Sentences.{Agree, AgreesWith, HaveOneShape, Keeps}
 
 -- before any step an object has one shape in all the files
 abbrev pub StartAgrees : Type 0
@@ -28,3 +28,15 @@ StepsAgreeWith = (s t : State) (c : ℕ) → Holds s → HasRoom s.shared → St
 -- after a run an object has one shape in all the files, where no run that isn't longer wants room
 abbrev pub RunsAgree : Type 0
 RunsAgree = (s : State) → IsRun s → LeaveRoom (length s.schedule) → Agree s.shared.meta s.shared.meta
+
+-- before any step an object has one shape in all the files, and no call has a layout in hand
+abbrev pub StartHasOneShape : Type 0
+StartHasOneShape = (script : ScriptView) → IsScript script → HaveOneShape (start script)
+
+-- each step for which there is room leaves each object with one shape in the files and in the layouts in hand
+abbrev pub StepsLeaveOneShape : Type 0
+StepsLeaveOneShape = (s t : State) (c : ℕ) → Holds s → HasRoom s.shared → HaveOneShape s → StepIs s c t → HaveOneShape t
+
+-- so it is after a run, where no run that isn't longer wants room
+abbrev pub RunsLeaveOneShape : Type 0
+RunsLeaveOneShape = (s : State) → IsRun s → LeaveRoom (length s.schedule) → HaveOneShape s

@@ -14,7 +14,7 @@ all_idle : (cap n : ℕ) → AllByRecursion (λ (client : Client). IsBelow cap c
 all_idle cap zero = tt
 all_idle cap (suc n) = (tt, all_idle cap n)
 
-start_short : (script : ScriptView) → IsShort (start script)
+pub start_short : (script : ScriptView) → IsShort (start script)
 start_short script = record { files = tt; calls = all_idle (cap_of script) (length script.clients) }
 
 run_short : (s : State) → IsRun s → LeaveRoom (length s.schedule) → IsShort s

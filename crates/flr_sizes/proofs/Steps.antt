@@ -171,11 +171,11 @@ module _ (P : Client → Type 0) where
   got (y ∷ ys) zero x h e = let same : y ≡ x = cc in subst P same h.0
   got (y ∷ ys) (suc i) x h e = got ys i x h.1 e
 
-  got_at : (xs : List Client) (c : ℕ) (x : Client) → AllByRecursion P xs → client_at xs c ≡ Some x → P x
+  pub got_at : (xs : List Client) (c : ℕ) (x : Client) → AllByRecursion P xs → client_at xs c ≡ Some x → P x
   got_at xs zero x h e = absurd (cc)
   got_at xs (suc c) x h e = got xs c x h e
 
-  put : (xs : List Client) (i : ℕ) (x : Client) → AllByRecursion P xs → P x → AllByRecursion P (set xs i x)
+  pub put : (xs : List Client) (i : ℕ) (x : Client) → AllByRecursion P xs → P x → AllByRecursion P (set xs i x)
   put [] i x h k = tt
   put (y ∷ ys) zero x h k = (k, h.1)
   put (y ∷ ys) (suc i) x h k = (h.0, put ys i x h.1 k)

@@ -1,0 +1,5 @@
+pub mod Sparing
+pub mod Tracing
+pub mod Keeping
+pub mod Latest
+pub mod Runs

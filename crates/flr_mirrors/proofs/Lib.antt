@@ -1,0 +1,9 @@
+pub mod Layouts
+pub mod Files
+pub mod Steps
+pub mod CopySteps
+pub mod Commands
+pub mod Copies
+pub mod Verifying
+pub mod Keeping
+pub mod Runs

@@ -1,0 +1,10 @@
+pub mod Outcomes
+pub mod Calls
+pub mod Copies
+pub mod Commands
+pub mod Lists
+pub mod Entries
+pub mod Own
+pub mod Places
+pub mod Keeping
+pub mod Runs

@@ -1,0 +1,9 @@
+pub mod Counting
+pub mod Tails
+pub mod Listing
+pub mod Files
+pub mod Leading
+pub mod Cutting
+pub mod Copying
+pub mod Keeping
+pub mod Runs
