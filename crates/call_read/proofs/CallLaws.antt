@@ -42,7 +42,7 @@ use Rattle.call_read.proofs.FollowLaws.{lines_first, not_unended}
 
 -- ---- the line of a call is that of its head
 
-abbrev head_from_call : Call → Head
+abbrev pub head_from_call : Call → Head
 head_from_call c = record { places = places_at c.entry; command = c.command; answer = answer_from c.entry.reply }
 
 words_from : (r : Reply) → answer_words (answer_from r) ≡ reply_words r
@@ -83,10 +83,10 @@ words_from (reply.CopyFault failed) = refl
 words_from (reply.VerifyFault failed) = refl
 words_from reply.NoObject = refl
 
-line_from : (c : Call) → head_line (head_from_call c) ≡ call_line c.entry c.command
+pub line_from : (c : Call) → head_line (head_from_call c) ≡ call_line c.entry c.command
 line_from c = ap (λ (words : List (List ℕ)). spaced (spaced (place_words (places_at c.entry)) ∷ command_text c.command ∷ codes "=" ∷ spaced words ∷ [])) (words_from c.entry.reply)
 
-answer_good : (r : Reply) (ts : List Take) → IsReply r ts → IsAnswer (answer_from r)
+pub answer_good : (r : Reply) (ts : List Take) → IsReply r ts → IsAnswer (answer_from r)
 answer_good reply.Created ts h = h.0
 answer_good (reply.Layout text) ts h = tt
 answer_good reply.Set ts h = h.0
@@ -124,7 +124,7 @@ answer_good (reply.CopyFault failed) ts h = h.0
 answer_good (reply.VerifyFault failed) ts h = h.0
 answer_good reply.NoObject ts h = h.0
 
-head_good : (c : Call) → IsReadable c → IsHead (head_from_call c)
+pub head_good : (c : Call) → IsReadable c → IsHead (head_from_call c)
 head_good c h = record { places = h.places; command = h.command; answer = answer_good c.entry.reply c.entry.takes h.reply }
 
 -- no text follows an answer of one line
@@ -251,7 +251,7 @@ words_of_it answers.Layout q ts b = ap reply_words b.0.2
 words_of_it (answers.Bytes bytes) q ts b = ap reply_words b.0
 words_of_it (answers.Differ count) q ts b = ap reply_words b.0.3 ∙ ap (λ (n : ℕ). answer_words (answers.Differ n)) b.0.1
 
-text_of_it : (a : Answer) (q : Reply) (ts : List Take) → IsAnswer a → Becomes a q ts → following_text q ts ≡ text_behind a q ts
+pub text_of_it : (a : Answer) (q : Reply) (ts : List Take) → IsAnswer a → Becomes a q ts → following_text q ts ≡ text_behind a q ts
 text_of_it (answers.Whole r) q ts good b = ap (λ (x : Reply). following_text x ts) b.0 ∙ short_text r ts good
 text_of_it answers.Layout q ts good b = refl
 text_of_it (answers.Bytes bytes) q ts good b = refl
@@ -289,7 +289,7 @@ front_of text line rest behind h q ts cut good is s = record {
 
 -- ---- its lines
 
-head_lacks : (h : Head) → IsHead h → Lacks 10 (head_line h)
+pub head_lacks : (h : Head) → IsHead h → Lacks 10 (head_line h)
 head_lacks h good =
     let answer : Lacks 10 (spaced (answer_words h.answer)) = spaced_lacks (answer_words h.answer) (answer_words_words h.answer good.answer) in
     let command : Lacks 10 (command_text h.command) = one_line 32 h.command good.command in
@@ -299,11 +299,11 @@ head_lacks h good =
     let middle : Lacks 10 (32 ∷ (command_text h.command ++ last)) = (refl, Lacks-append 10 (command_text h.command) last command behind) in
     Lacks-append 10 (spaced (place_words h.places)) (32 ∷ (command_text h.command ++ last)) places middle
 
-takes_lack : (ts : List Take) → AllByRecursion IsTake ts → AllLack 10 (map take_line ts)
+pub takes_lack : (ts : List Take) → AllByRecursion IsTake ts → AllLack 10 (map take_line ts)
 takes_lack [] all = tt
 takes_lack (t ∷ ts) all = (take_lacks t all.0, takes_lack ts all.1)
 
-diffs_lack : (ds : List Diff) → AllByRecursion IsDiff ds → AllLack 10 (map diff_line ds)
+pub diffs_lack : (ds : List Diff) → AllByRecursion IsDiff ds → AllLack 10 (map diff_line ds)
 diffs_lack [] all = tt
 diffs_lack (d ∷ ds) all = (diff_lacks d all.0, diffs_lack ds all.1)
 
@@ -315,7 +315,7 @@ becomes_some (answers.Bytes bytes) ys f = (reply.Bytes bytes, f.0, (refl, f.1), 
 becomes_some (answers.Differ count) ys f = (reply.Differ f.0, [], ((f.0, f.1, f.2, refl), refl), f.3 ∙ sym (lines-text (map diff_line f.0) (diffs_lack f.0 f.2)))
 
 -- and the other way
-follow_text : (r : Reply) (ts : List Take) → IsReply r ts → Follow (answer_from r) (lines_of (following_text r ts))
+pub follow_text : (r : Reply) (ts : List Take) → IsReply r ts → Follow (answer_from r) (lines_of (following_text r ts))
 follow_text reply.Created ts h = refl
 follow_text (reply.Layout text) ts h = (h.0.0, h.0.1.0, ap lines_of h.0.1.1 ∙ lines_of-layout h.0.0)
 follow_text reply.Set ts h = refl
@@ -359,8 +359,17 @@ call_lines c h =
     ap (λ (xs : List ℕ). lines_of (xs ++ 10 ∷ following_text c.entry.reply c.entry.takes)) (sym (line_from c))
     ∙ lines_first (head_line (head_from_call c)) (following_text c.entry.reply c.entry.takes) (head_lacks (head_from_call c) (head_good c h))
 
-one_head : (h k : Head) → IsHead h → IsHead k → head_line h ≡ head_line k → h ≡ k
+pub one_head : (h k : Head) → IsHead h → IsHead k → head_line h ≡ head_line k → h ≡ k
 one_head h k a b e = let both : Some h ≡ Some k = sym (head_again h a) ∙ ap head_of e ∙ head_again k b in cc
+
+-- lines that may follow are those of a call with this head
+pub call_behind : (h : Head) (tail : Lines) → IsHead h → Follow h.answer tail → (q : Reply) × (ts : List Take) × IsReadable (call_at h q ts) × (lines_of (text_of_call (call_at h q ts).entry h.command) ≡ Some (head_line h) ∷ tail)
+call_behind h tail good f =
+    let b = becomes_some h.answer tail f in
+    let readable : IsReadable (call_at h b.0 b.1) = record { places = good.places; command = good.command; reply = reply_of_it h.answer b.0 b.1 good.answer b.2 } in
+    let lines : lines_of (text_of_call (call_at h b.0 b.1).entry h.command) ≡ Some (head_line h) ∷ lines_of (text_behind h.answer b.0 b.1) =
+    ap lines_of (text_at h b.0 b.1 good b.2) ∙ lines_first (head_line h) (text_behind h.answer b.0 b.1) (head_lacks h good) in
+    (b.0, b.1, readable, lines ∙ ap (λ (ys : Lines). Some (head_line h) ∷ ys) (sym b.3))
 
 -- behind the line of a head comes what follows its answer
 head_leaves : (h : Head) → IsHead h → Leaves AreCallLines (Some (head_line h) ∷ []) (Follow h.answer)
@@ -375,12 +384,7 @@ head_leaves h good tail = (forth, back)
         subst (Follow h.answer) (sym rest) (subst (λ (k : Head). Follow k.answer (lines_of (following_text c.entry.reply c.entry.takes))) (sym same) (follow_text c.entry.reply c.entry.takes readable.reply))
 
     back : Follow h.answer tail → AreCallLines (Some (head_line h) ∷ tail)
-    back f =
-        let b = becomes_some h.answer tail f in
-        let readable : IsReadable (call_at h b.0 b.1) = record { places = good.places; command = good.command; reply = reply_of_it h.answer b.0 b.1 good.answer b.2 } in
-        let lines : lines_of (text_of_call (call_at h b.0 b.1).entry h.command) ≡ Some (head_line h) ∷ lines_of (text_behind h.answer b.0 b.1) =
-        ap lines_of (text_at h b.0 b.1 good b.2) ∙ lines_first (head_line h) (text_behind h.answer b.0 b.1) (head_lacks h good) in
-        (call_at h b.0 b.1, readable, ap (λ (ys : Lines). Some (head_line h) ∷ ys) b.3 ∙ sym lines)
+    back f = let b = call_behind h tail good f in (call_at h b.0 b.1, b.2, sym b.3)
 
 -- there is a first line, that of a head
 first_head : (y : Option (List ℕ)) (more : Lines) → AreCallLines (y ∷ more) → (h : Head) × IsHead h × (y ≡ Some (head_line h))
@@ -435,7 +439,7 @@ stop_on text line rest h (Bad n) first good is s =
 stop_on text line rest h NoMemory first good is s = tt
 
 -- the lines that follow an answer lack byte 10
-following_ls : (r : Reply) (ts : List Take) → IsReply r ts → (ls : List (List ℕ)) × AllLack 10 ls × (following_text r ts ≡ text_of ls)
+pub following_ls : (r : Reply) (ts : List Take) → IsReply r ts → (ls : List (List ℕ)) × AllLack 10 ls × (following_text r ts ≡ text_of ls)
 following_ls reply.Created ts h = ([], tt, refl)
 following_ls (reply.Layout text) ts h = (layouts.head_line h.0.0 ∷ map component_line h.0.0.components, texts_lack h.0.0, h.0.1.1)
 following_ls reply.Set ts h = ([], tt, refl)
@@ -510,7 +514,7 @@ rest_is text front rest e =
     ap (λ (n : ℕ). drop n text) size ∙ ap (drop (length front)) e ∙ drop-append_seam front rest
 
 -- what is read has a text
-printable : (r : Reply) (ts : List Take) → IsReply r ts → IsPrintable r
+pub printable : (r : Reply) (ts : List Take) → IsReply r ts → IsPrintable r
 printable reply.Created ts h = tt
 printable (reply.Layout text) ts h = tt
 printable reply.Set ts h = tt

@@ -97,7 +97,7 @@ one_head h k a b e = let both : Some h ≡ Some k = sym (head_again h a) ∙ ap 
 abbrev file_at : FileHead → Composite → FileLine
 file_at h l = record { name = h.name; size = h.size; layout = l }
 
-file_text : (f : FileLine) → text_of_file f.name f.size f.layout ≡ file_line (head_at f) ++ 10 ∷ text_of_layout f.layout
+pub file_text : (f : FileLine) → text_of_file f.name f.size f.layout ≡ file_line (head_at f) ++ 10 ∷ text_of_layout f.layout
 unfolding text_of_file file_head
 file_text f = append_assoc (file_line (head_at f)) (10 ∷ []) (text_of_layout f.layout)
 
@@ -119,12 +119,12 @@ file_leaves h good tail = (forth, back)
         let is : IsFile (file_at h l) = record { head = good; layout = valid } in
         (file_at h l, is, ap (λ (ys : Lines). Some (file_line h) ∷ ys) (e ∙ sym (lines_of-layout l)) ∙ sym (file_lines (file_at h l) is))
 
-first_head : (y : Option (List ℕ)) (more : Lines) → AreFileLines (y ∷ more) → (h : FileHead) × IsFileHead h × (y ≡ Some (file_line h))
+pub first_head : (y : Option (List ℕ)) (more : Lines) → AreFileLines (y ∷ more) → (h : FileHead) × IsFileHead h × (y ≡ Some (file_line h))
 first_head y more (f, is, e) =
     let lines : y ∷ more ≡ Some (file_line (head_at f)) ∷ lines_of (text_of_layout f.layout) = e ∙ file_lines f is in
     (head_at f, is.head, cc)
 
-no_lines : AreFileLines [] → ⊥
+pub no_lines : AreFileLines [] → ⊥
 no_lines (f, is, e) =
     let lines : [] ≡ Some (file_line (head_at f)) ∷ lines_of (text_of_layout f.layout) = e ∙ file_lines f is in
     absurd cc

@@ -12,12 +12,12 @@ use Rattle.flr_base.specs.declared.runs.run.Run.{Run}
 use Rattle.flr_base.proofs.RunLists.{runs_of-bytes_of}
 use Rattle.text_words.specs.Cuts.{cut_of}
 use Rattle.text_words.specs.Numbers.{number_from}
-use Rattle.text_words.specs.Pieces.{parts_of}
+use Rattle.text_words.specs.Pieces.{Lacks, parts_of}
 use Rattle.text_words.specs.Words.{AreWords, IsWord, spaced}
 use Rattle.text_words.proofs.CutLaws.{cut_takes, cut_again}
 use Rattle.text_words.proofs.Spellings.{from_takes, from_again}
 use Rattle.text_words.proofs.Splits.{decimal_lacks}
-use Rattle.text_words.proofs.WordTexts.{decimal_word, word_append, word_graphic, parts_of-spaced, spaced-first}
+use Rattle.text_words.proofs.WordTexts.{decimal_word, word_append, word_graphic, parts_of-spaced, spaced-first, spaced_lacks}
 use Rattle.layout_text.specs.LineWords.{behind}
 use Rattle.report_text.specs.Texts.{run_word}
 use Rattle.reply_read.proofs.WordLaws.{found, mapped, same_word}
@@ -155,6 +155,9 @@ all_words (r ∷ rs) = (run_is_word r, all_words rs)
 line_text : (rs : List Run) → spaced (codes "schedule" ∷ map word_of rs) ≡ codes "schedule" ++ flat_map run_word rs
 line_text rs = spaced-first (codes "schedule") (map word_of rs) ∙ ap (λ (xs : List ℕ). codes "schedule" ++ xs) (words_are rs)
 
+pub schedule_lacks : (schedule : List ℕ) → Lacks 10 (schedule_line schedule)
+schedule_lacks schedule = subst (Lacks 10) (line_text (runs_of schedule)) (spaced_lacks (codes "schedule" ∷ map word_of (runs_of schedule)) (refl, all_words (runs_of schedule)))
+
 behind_takes : (key : List ℕ) (words rest : List (List ℕ)) → behind key words ≡ Some rest → words ≡ key ∷ rest
 behind_takes key [] rest e = absurd cc
 behind_takes key (first ∷ words) rest e = cond_both (bytes_eq first key) (Some words) None (λ o. o ≡ Some rest → first ∷ words ≡ key ∷ rest)
@@ -186,3 +189,7 @@ schedule_again schedule h =
 pub schedule_spelled : {E : Type 0} (line : List ℕ) (r : Result (Option (List ℕ)) E) → IfOk r (λ found. found ≡ schedule_of line) → IfOk r (λ found. (schedule : List ℕ) → ((found ≡ Some schedule) ↔ (IsSchedule schedule × (line ≡ schedule_line schedule))))
 schedule_spelled line (Err e) h = tt
 schedule_spelled line (Ok found) h = λ schedule. (λ e. schedule_takes line schedule (sym h ∙ e), λ k. h ∙ ap schedule_of k.1 ∙ schedule_again schedule k.0)
+
+-- a line is that of one schedule
+pub one_schedule : (schedule other : List ℕ) → IsSchedule schedule → IsSchedule other → schedule_line schedule ≡ schedule_line other → schedule ≡ other
+one_schedule schedule other good fine e = let both : Some schedule ≡ Some other = sym (schedule_again schedule good) ∙ ap schedule_of e ∙ schedule_again other fine in cc

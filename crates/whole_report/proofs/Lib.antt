@@ -1,0 +1,10 @@
+pub mod Counts
+pub mod Faults
+pub mod Further
+pub mod CallTexts
+pub mod Comings
+pub mod CallLaws
+pub mod FileLaws
+pub mod LastLaws
+pub mod ReportLaws
+pub mod Unique
