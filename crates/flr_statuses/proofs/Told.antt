@@ -6,7 +6,7 @@ use Rattle.std.proofs.lemmas.List.{append-nil}
 use Rattle.flr_base.specs.Streams.{ReadsWhole}
 use Rattle.flr_statuses.specs.Statuses.{Tells, TellsFront, TakesFront, IsReadFault}
 
-whole_is : (b : List ℕ) (now : Option (List ℕ)) (bytes : List ℕ) → ReadsWhole (Some b) now bytes → bytes ≡ b
+pub whole_is : (b : List ℕ) (now : Option (List ℕ)) (bytes : List ℕ) → ReadsWhole (Some b) now bytes → bytes ≡ b
 whole_is b None bytes h = absurd h.0
 whole_is b (Some rest) bytes h = sym (h.0 ∙ ap (λ (l : List ℕ). bytes ++ l) h.1 ∙ append-nil bytes)
 

@@ -1,6 +1,6 @@
 -- The statuses that the calls which read an input end with, and what they have written.
 use Rattle.std.specs.Prelude.{◌≡◌, ℕ, ◌⊎◌, List, [], ◌∷◌, ◌++◌, Option, codes}
-use Rattle.std.specs.Io.KnownBytes.{Appends}
+use Rattle.std.specs.Io.KnownBytes.{Appends, Keeps}
 use Rattle.flr_base.specs.Causes.{Rose}
 
 -- 0: done; 3: the input is refused; 4: it can't be read; 5: the output can't be written; 6: memory ran out
@@ -32,3 +32,19 @@ pub record TellsFront (IsDone IsRefusal : List ℕ → List ℕ → Type 0) (byt
   pub text : List ℕ
   pub is : IsDone bytes text ⊎ (IsRefusal bytes text ⊎ IsReadFault before now text)
   pub taken : TakesFront old new text
+
+-- a text that is so was written
+pub record Told (Is : List ℕ → Type 0) (old new : Option (List ℕ)) : Type 0 where
+  pub text : List ℕ
+  pub is : Is text
+  pub taken : Appends old new text
+
+-- a front was taken of a text that is so
+pub record TookFront (Is : List ℕ → Type 0) (old new : Option (List ℕ)) : Type 0 where
+  pub text : List ℕ
+  pub is : Is text
+  pub taken : TakesFront old new text
+
+-- status 6 of a call that writes its text as it is made: nothing was taken, or a front of a text that is so to these bytes
+abbrev pub LeavesFront : (List ℕ → List ℕ → Type 0) → List ℕ → Option (List ℕ) → Option (List ℕ) → Type 0
+LeavesFront Is bytes old new = Keeps old new ⊎ TookFront (Is bytes) old new

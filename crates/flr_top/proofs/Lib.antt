@@ -1,4 +1,1 @@
-pub mod Lists
-pub mod Printable
-pub mod Played
-pub mod Known
+pub mod Soaks

@@ -1,5 +1,1 @@
-pub mod Reports
-pub mod Replays
-pub mod Statuses
-pub mod Outcomes
-pub mod Words
+pub mod Forms

@@ -1,11 +1,9 @@
-//! The program's calls: from the bytes of a script and a schedule to the bytes of a report.
+//! The program's call: from its words and the bytes of its input to the bytes of its output.
 #![tactic(auto)]
 
 mod main_call;
-mod replay;
-mod replay_call;
-mod report;
-mod words;
 
+pub use flr_migrate::migrate_main;
+pub use flr_replay::replay_main;
+pub use flr_soak::soak_main;
 pub use main_call::flr_main;
-pub use replay_call::replay_main;

@@ -1,54 +1,75 @@
 //! The program.
 
-ghost use Rattle.std.specs.Prelude.{◌≡◌, ◌⊎◌, IfSome};
+ghost use Rattle.std.specs.Prelude.{◌≡◌, ◌⊎◌, ℕ, IfSome};
 ghost use Rattle.std.specs.Io.KnownBytes.{Appends, Keeps};
 ghost use Rattle.flr_base.specs.Causes.{Rose};
-ghost use Rattle.flr_statuses.specs.Statuses.{IsStatus, Tells, TellsFront, TakesFront, read_fault_line};
+ghost use Rattle.flr_statuses.specs.Statuses.{IsStatus, LeavesFront, TakesFront, Tells, TellsFront, Told, TookFront, read_fault_line};
 ghost use Rattle.flr_migrate.specs.Migrations.{IsMigrated, IsRefusal as IsNotMigrated};
-ghost use Rattle.flr_top.specs.Statuses.{IsReport, IsRefusal, IsReplayWord, IsMigrateWord, IsOtherWords, words_line};
+ghost use Rattle.flr_replay.specs.Replays.{IsReport, IsRefusal as IsNotReplayed};
+ghost use Rattle.flr_soak.specs.Counts.{IsSoakLine};
+ghost use Rattle.flr_top.specs.Forms.{AsksMigrate, AsksNothing, AsksReplay, AsksSoak, words_line};
 
-use crate::replay_call::replay_main;
-use crate::words::{Call, asked};
-use flr_base::{Sink, Source};
+use flr_base::{NoMemory, Sink, Source};
 use flr_migrate::migrate_main;
+use flr_replay::replay_main;
+use flr_soak::soak_main;
 use flr_statuses::written;
+use flr_words::{Words, read_words};
 use std::alloc::Global;
 
-/// The program: `replay` or `migrate`, by its one word.
+/// The program: `replay`, `soak SEED CLIENTS CALLS` or `migrate`, by its words.
 ///
-/// Status 2: the words are others, and one line says which are known. The source isn't touched. The
-/// other statuses are those of `replay_main` and `migrate_main`, which read the input and write the
-/// output.
+/// Status 2: the words are others, and one line says which are known. The source isn't touched. The other
+/// statuses are those of `replay_main`, `soak_main` and `migrate_main`, which answer and write as they do
+/// by themselves. Status 6 comes also where memory runs out in the reading of the words.
 pub fn flr_main<S: Source, K: Sink>(
     alloc: Global,
     words: &[String],
     input: &mut S,
     out: &mut K,
 ) -> u8
-    // The report has an entry for each command, and each has ended. They are linear, and each read has
-    // right takes.
-    ensures replayed { result ≡ 0 → IsReplayWord words.now → IfSome (S.left input.old) (λ bytes. Tells IsReport bytes (K.taken out.old) (K.taken out.new)) }
-    // What is written is the printed form of the script that the input spells. It spells that script again.
-    ensures migrated { result ≡ 0 → IsMigrateWord words.now → IfSome (S.left input.old) (λ bytes. Tells IsMigrated bytes (K.taken out.old) (K.taken out.new)) }
-    ensures words { result ≡ 2 → IsOtherWords words.now }
-    ensures untouched { IsOtherWords words.now → input.new ≡ input.old }
+    // Replay: the input spells a script and a schedule, and what is written is the report of that very run.
+    ensures replayed { result ≡ 0 → AsksReplay words.now → IfSome (S.left input.old) (λ bytes. Tells IsReport bytes (K.taken out.old) (K.taken out.new)) }
+    ensures not_replayed { result ≡ 3 → AsksReplay words.now → IfSome (S.left input.old) (λ bytes. Tells IsNotReplayed bytes (K.taken out.old) (K.taken out.new)) }
+    ensures replay_front { result ≡ 5 → AsksReplay words.now → IfSome (S.left input.old) (λ bytes. TellsFront IsReport IsNotReplayed bytes (S.faults input.old) (S.faults input.new) (K.taken out.old) (K.taken out.new)) }
+    ensures replay_left { result ≡ 6 → AsksReplay words.now → IfSome (S.left input.old) (λ bytes. LeavesFront IsReport bytes (K.taken out.old) (K.taken out.new)) }
+    ensures replays { AsksReplay words.now → IsStatus result }
+    // Soak: the line is that of the script and the run that the numbers make.
+    ensures soaked { (seed clients calls : ℕ) → result ≡ 0 → AsksSoak seed clients calls words.now → Told (IsSoakLine seed clients calls) (K.taken out.old) (K.taken out.new) }
+    ensures soak_front { (seed clients calls : ℕ) → result ≡ 5 → AsksSoak seed clients calls words.now → TookFront (IsSoakLine seed clients calls) (K.taken out.old) (K.taken out.new) }
+    ensures soak_left { (seed clients calls : ℕ) → result ≡ 6 → AsksSoak seed clients calls words.now → Keeps (K.taken out.old) (K.taken out.new) }
+    ensures soaks { (seed clients calls : ℕ) → AsksSoak seed clients calls words.now → (input.new ≡ input.old) × ((result ≡ 0) ⊎ ((result ≡ 5) ⊎ (result ≡ 6))) }
+    // Migrate: what is written is the printed form of the script that the input spells. It spells that script again.
+    ensures migrated { result ≡ 0 → AsksMigrate words.now → IfSome (S.left input.old) (λ bytes. Tells IsMigrated bytes (K.taken out.old) (K.taken out.new)) }
+    ensures not_migrated { result ≡ 3 → AsksMigrate words.now → IfSome (S.left input.old) (λ bytes. Tells IsNotMigrated bytes (K.taken out.old) (K.taken out.new)) }
+    ensures migrate_front { result ≡ 5 → AsksMigrate words.now → IfSome (S.left input.old) (λ bytes. TellsFront IsMigrated IsNotMigrated bytes (S.faults input.old) (S.faults input.new) (K.taken out.old) (K.taken out.new)) }
+    ensures migrate_left { result ≡ 6 → AsksMigrate words.now → Keeps (K.taken out.old) (K.taken out.new) }
+    ensures migrates { AsksMigrate words.now → IsStatus result }
+    // Other words: one line says which are known, and the source isn't touched.
+    ensures words { result ≡ 2 → AsksNothing words.now }
     ensures words_line { result ≡ 2 → Appends (K.taken out.old) (K.taken out.new) words_line }
-    ensures not_replayed { result ≡ 3 → IsReplayWord words.now → IfSome (S.left input.old) (λ bytes. Tells IsRefusal bytes (K.taken out.old) (K.taken out.new)) }
-    ensures not_migrated { result ≡ 3 → IsMigrateWord words.now → IfSome (S.left input.old) (λ bytes. Tells IsNotMigrated bytes (K.taken out.old) (K.taken out.new)) }
+    ensures words_front { result ≡ 5 → AsksNothing words.now → TakesFront (K.taken out.old) (K.taken out.new) words_line }
+    ensures words_left { result ≡ 6 → AsksNothing words.now → Keeps (K.taken out.old) (K.taken out.new) }
+    ensures untouched { AsksNothing words.now → (input.new ≡ input.old) × ((result ≡ 2) ⊎ ((result ≡ 5) ⊎ (result ≡ 6))) }
     ensures read { result ≡ 4 → Rose (S.faults input.old) (S.faults input.new) }
     ensures read_line { result ≡ 4 → Appends (K.taken out.old) (K.taken out.new) read_fault_line }
     ensures write { result ≡ 5 → Rose (K.faults out.old) (K.faults out.new) }
-    ensures replay_front { result ≡ 5 → IsReplayWord words.now → IfSome (S.left input.old) (λ bytes. TellsFront IsReport IsRefusal bytes (S.faults input.old) (S.faults input.new) (K.taken out.old) (K.taken out.new)) }
-    ensures migrate_front { result ≡ 5 → IsMigrateWord words.now → IfSome (S.left input.old) (λ bytes. TellsFront IsMigrated IsNotMigrated bytes (S.faults input.old) (S.faults input.new) (K.taken out.old) (K.taken out.new)) }
-    ensures words_front { result ≡ 5 → IsOtherWords words.now → TakesFront (K.taken out.old) (K.taken out.new) words_line }
-    ensures memory { result ≡ 6 → Keeps (K.taken out.old) (K.taken out.new) }
-    ensures status { IsOtherWords words.now → (result ≡ 2) ⊎ (result ≡ 5) }
-    ensures replays { IsReplayWord words.now → IsStatus result }
-    ensures migrates { IsMigrateWord words.now → IsStatus result }
 {
-    match asked(words) {
-        Call::Replay => replay_main(alloc, input, out),
-        Call::Migrate => migrate_main(alloc, input, out),
-        Call::Nothing => written(out, b"flr: words: replay | migrate\n", 2),
+    match read_words(alloc, words) {
+        Ok(Words::Replay) => replay_main(alloc, input, out),
+        Ok(
+            Words::Soak {
+                seed,
+                clients,
+                calls,
+            },
+        ) => soak_main(alloc, seed, clients, calls, out),
+        Ok(Words::Migrate) => migrate_main(alloc, input, out),
+        Ok(Words::Other) => written(
+            out,
+            b"flr: words: replay | soak SEED CLIENTS CALLS | migrate\n",
+            2,
+        ),
+        Err(NoMemory) => 6,
     }
 }

@@ -1,9 +1,4 @@
-pub mod Servers
-pub mod Steps
-pub mod Clients
-pub mod States
-pub mod Stores
-pub mod Histories
-pub mod Honesty
-pub mod Takes
-pub mod Soundness
+pub mod Worlds
+pub mod Answers
+pub mod Reports
+pub mod Counts

@@ -1,13 +1,9 @@
-//! The world: clients that run their commands step by step on the servers, and the calls so far.
+//! The world: the clients of a script, and the servers that they step on.
 #![tactic(auto)]
 
-mod call;
-mod client;
-mod files;
-mod locks;
-mod target;
+mod member;
+mod notes;
+mod report;
 mod world;
 
-pub use files::{Cookie, File, Layout};
-pub use target::{CallAnswer, CallEntry, CallKind, Target};
-pub use world::{StepAnswer, World};
+pub use world::World;

@@ -1,83 +1,64 @@
 //! The world.
 
-ghost use Rattle.std.specs.Prelude.{◌≡◌, ◌<◌, ◌+◌, ◌^◌, ◌∷◌, [], ◌++◌, length, map, vec_len, vec_capacity, IfOk, option_copied};
-ghost use Rattle.first_path_script.specs.Scripts.{command_after};
-ghost use Rattle.flr_world.specs.Histories.{IsLinear};
-ghost use Rattle.flr_world.specs.Takes.{EachAnswered};
-ghost use Rattle.flr_world.specs.Honesty.{IsHonest};
-ghost use Rattle.flr_world.specs.States.{StepGives, IsRun, start, noted, closed, unfinished_of};
+ghost use Rattle.std.specs.Prelude.{◌≡◌, ◌<◌, ◌+◌, ◌≤◌, ◌∷◌, [], ◌++◌, length, get_or, is_some, vec_len, vec_capacity, IfOk, option_copied};
+ghost use Rattle.script_values.specs.Scripts.{command_after};
+ghost use Rattle.flr_steps.specs.States.{IsRun, new_client, start, unfinished_of};
+ghost use Rattle.flr_world.specs.Answers.{StepGives};
+ghost use Rattle.flr_world.specs.Counts.{unfinished_count};
 
-use crate::call::Phase;
-use crate::client::{Client, ClientAnswer, Note};
-use crate::files::{File, Files};
-use crate::locks::Locks;
-use crate::target::Target;
-use first_path_script::{Command, Script};
+use crate::member::{Member, new_members};
+use crate::notes::put_note;
+use client_step::CallerAnswer;
+use extent_lock::ExtentLocks;
 use flr_base::{Entry, NoMemory};
+use meta_server::Meta;
+use object_target::Targets;
+use script_values::{Command, Script};
 use std::alloc::Global;
 use std::marker::Model;
+use turn_cell::{StepAnswer, Stepped};
 
-/// What a try to step came to.
-#[derive(Clone, Copy, Debug, PartialEq, Eq)]
-pub enum StepAnswer {
-    /// The client made its next step.
-    Stepped,
-    /// This client holds what the step needs.
-    Blocked { holder: u8 },
-    /// The client has no command left.
-    Finished,
-    /// There is no such client.
-    Unknown,
-    /// Memory ran out.
-    NoMemory,
-}
-
-/// The clients of a script, the servers that they step on, the calls so far and the schedule so far.
-/// It is always the state after that script and schedule.
-#[derive(Debug, Drop)]
+/// The clients of a script, the servers that they step on, the calls so far and the schedule so far. It
+/// is always the state after that script and schedule.
+#[derive(Drop)]
 pub struct World {
-    alloc: Global,
-    script: Script,
-    files: Files,
-    target: Target,
-    locks: Locks,
-    client: Client,
-    entries: Vec<Entry>,
-    schedule: Vec<u8>,
+    pub(crate) alloc: Global,
+    pub(crate) script: Script,
+    pub(crate) meta: Meta,
+    targets: Targets,
+    locks: ExtentLocks,
+    members: Vec<Member>,
+    pub(crate) entries: Vec<Entry>,
+    pub(crate) schedule: Vec<u8>,
 }
 
 impl Model for World {
-    ghost use Rattle.std.specs.Prelude.{◌∷◌, []};
-    ghost use Rattle.flr_world.specs.States.{State};
+    ghost use Rattle.flr_steps.specs.States.{State};
+    ghost use Rattle.flr_world.specs.Worlds.{IsWorld, shown};
 
     ghost Value = { State };
 
-    ghost use Rattle.flr_world.specs.Servers.{shared};
-    ghost use Rattle.flr_world.specs.States.{IsRun};
+    ghost view = { λ w. shown w.script w.meta w.targets w.locks w.members.items w.entries.items w.schedule.items };
 
-    ghost view = { λ a. record { script = a.script; shared = shared a.files a.target a.locks; clients = a.client ∷ []; entries = a.entries.items; schedule = a.schedule.items } };
-
-    ghost invariant = { λ a. IsRun (record { script = a.script; shared = shared a.files a.target a.locks; clients = a.client ∷ []; entries = a.entries.items; schedule = a.schedule.items }) };
+    ghost invariant = { λ w. IsWorld w.script w.meta w.targets w.locks w.members.items w.entries.items w.schedule.items };
 }
 
 impl World {
-    /// The world before any step: no files, and a target that keeps nothing.
+    /// The world before any step: no files, and targets that keep nothing.
     pub fn start(alloc: Global, script: Script) -> Result<World, NoMemory>
         ensures start { IfOk result (λ world. world ≡ start script) }
         ensures run { IfOk result (λ world. IsRun world) }
     {
-        let _ = script.clients();
+        let meta = Meta::new(alloc, script.targets(), script.most())?;
+        let targets = Targets::new(alloc, script.targets(), script.fails())?;
+        let members = new_members(alloc, script.clients())?;
         Ok(World {
             alloc,
             script,
-            files: Files::new(alloc),
-            target: Target::new(alloc),
-            locks: Locks::new(alloc),
-            client: Client {
-                done: 0,
-                first: 0,
-                phase: Phase::Idle,
-            },
+            meta,
+            targets,
+            locks: ExtentLocks::new(alloc),
+            members,
             entries: Vec::new(alloc),
             schedule: Vec::new(alloc),
         })
@@ -90,18 +71,33 @@ impl World {
         &self.script
     }
 
-    /// The files in order of creation.
-    pub fn files(&self) -> &[File]
-        ensures same { result.now ≡ self.now.shared.files }
+    /// The metadata server.
+    pub fn meta(&self) -> &Meta
+        ensures same { result.now ≡ self.now.shared.meta }
     {
-        self.files.as_slice()
+        &self.meta
     }
 
-    /// The one target.
-    pub fn target(&self) -> &Target
-        ensures same { self.now.shared.targets ≡ result.now ∷ [] }
+    /// The targets.
+    pub fn targets(&self) -> &Targets
+        ensures same { result.now ≡ self.now.shared.targets }
     {
-        &self.target
+        &self.targets
+    }
+
+    /// The calls whose answer is fixed, in the order of their points.
+    pub fn entries(&self) -> &[Entry]
+        ensures same { result.now ≡ self.now.entries }
+        ensures run { IsRun self.now }
+    {
+        self.entries.as_slice()
+    }
+
+    /// A world is a state of a run, always.
+    fn keeps_run(&self)
+        ensures { IsRun self.now }
+    {
+        let _ = &self.script;
     }
 
     /// Who stepped so far, in order.
@@ -115,126 +111,101 @@ impl World {
     pub fn unfinished(&self) -> Option<u8>
         ensures lowest { result ≡ unfinished_of self.now }
     {
-        if next_command(&self.script, 1, self.client.done).is_some() {
-            Some(1)
-        } else {
-            None
+        for k in 0..self.script.clients() {
+            if self.has_left(k) {
+                return Some(k + 1);
+            }
         }
+        None
     }
 
-    /// The calls whose answer is fixed, in the order of their points.
-    pub fn entries(&self) -> &[Entry]
-        ensures same { result.now ≡ self.now.entries }
-        ensures linear { IsLinear self.now.script self.now.schedule result.now }
-        ensures takes { EachAnswered self.now.script self.now.schedule result.now }
-        ensures honest { IsHonest self.now }
+    /// How many clients have a command left.
+    pub fn left(&self) -> u8
+        ensures count { result ≡ unfinished_count self.now.script 1 self.now.clients }
     {
-        self.keeps_run();
-        self.calls()
+        let mut found = 0;
+        for k in 0..self.script.clients() {
+            if self.has_left(k) {
+                found += 1;
+            }
+        }
+        found
     }
 
-    fn calls(&self) -> &[Entry]
-        ensures { result.now ≡ self.now.entries }
+    /// Whether the client at this place, counted from 0, has a command left.
+    fn has_left(&self, k: u8) -> bool
+        requires { k < length self.now.clients }
+        ensures { result ≡ is_some (command_after self.now.script (k + 1) (get_or self.now.clients k new_client).done) }
     {
-        self.entries.as_slice()
-    }
-
-    fn keeps_run(&self)
-        ensures { IsRun self.now }
-    {
-        let _ = &self.script;
+        let done = self.members[usize::from(k)].caller.client.done;
+        next_command(&self.script, k + 1, done).is_some()
     }
 
     /// The client makes its next step. All answers but `Stepped` leave the world as it was.
     pub fn step(&mut self, client: u8) -> StepAnswer
         ensures step { StepGives self.old client result self.new }
-        ensures schedule { result ≡ StepAnswer.Stepped → self.new.schedule ≡ self.old.schedule ++ client ∷ [] }
-        ensures script { self.new.script ≡ self.old.script }
-        ensures run { IsRun self.new }
-
-        // The calls so far are a legal history of plain files, each at a moment within its interval.
-        ensures linear { IsLinear self.new.script self.new.schedule self.new.entries }
-        // Every byte of a read was answered by the fresh component.
-        ensures takes { EachAnswered self.new.script self.new.schedule self.new.entries }
-        // The component holds the plain file's bytes.
-        ensures honest { IsHonest self.new }
-    {
-        self.advance(client)
-    }
-
-    fn advance(&mut self, client: u8) -> StepAnswer
-        ensures step { StepGives self.old client result self.new }
-        ensures schedule { result ≡ StepAnswer.Stepped → self.new.schedule ≡ self.old.schedule ++ client ∷ [] }
-        ensures script { self.new.script ≡ self.old.script }
         ensures run { IsRun self.new }
     {
-        let _ = &self.script;
-        if client != 1 {
+        if client == 0 || client > self.script.clients() {
             return StepAnswer::Unknown;
         }
-        let Some(command) = next_command(&self.script, client, self.client.done) else {
+        let member = &mut self.members[usize::from(client) - 1];
+        let done = member.caller.client.done;
+        let Some(command) = next_command(&self.script, client, done) else {
             return StepAnswer::Finished;
         };
         if self.schedule.reserve(1).is_err() || self.entries.reserve(1).is_err() {
             return StepAnswer::NoMemory;
         }
         let place = self.schedule.len() as u32 + 1;
-        match self.client.step(
+        match member.caller.step(
             self.alloc,
             client,
             place,
             command,
-            &mut self.files,
-            &mut self.target,
+            &mut self.meta,
+            &mut self.targets,
             &mut self.locks,
         ) {
-            ClientAnswer::Stepped(note) => {
-                put_note(&mut self.entries, client, place, note);
+            CallerAnswer::Moved(note) => {
+                put_note(&mut self.entries, &mut member.pending, client, place, note);
                 put_place(&mut self.schedule, client);
                 StepAnswer::Stepped
             }
-            ClientAnswer::NoMemory => StepAnswer::NoMemory,
+            CallerAnswer::Blocked { holder } => StepAnswer::Blocked { holder },
+            CallerAnswer::NoMemory => StepAnswer::NoMemory,
         }
+    }
+}
+
+impl Stepped for World {
+    ghost use Rattle.flr_world.specs.Answers.{IsAllowed};
+
+    type Origin = Script;
+
+    ghost schedule = { λ w. w.schedule };
+
+    ghost origin = { λ w. w.script };
+
+    ghost allowed = { IsAllowed };
+
+    fn step(&mut self, client: u8) -> StepAnswer {
+        self.keeps_run();
+        World::step(self, client)
+    }
+
+    fn places(&self) -> u32 {
+        self.schedule.len() as u32
     }
 }
 
 /// The command of a client after so many that are done.
 fn next_command(script: &Script, client: u8, done: u32) -> Option<&Command>
-    requires { client ≡ 1 }
+    requires low { 1 ≤ client }
+    requires high { client ≤ length script.now.clients }
     ensures { option_copied result ≡ command_after script.now client done }
 {
-    let _ = script.clients();
     script.commands(client).get(done as usize)
-}
-
-fn put_note(entries: &mut Vec<Entry>, client: u8, place: u32, note: Note)
-    requires { vec_len entries.old < vec_capacity entries.old }
-    ensures { entries.new.items ≡ noted client place entries.old.items note }
-{
-    match note {
-        Note::Nothing => {}
-        Note::Adds(entry) => {
-            let _ = entries.push(entry);
-        }
-        Note::Closes => close(entries.as_mut_slice(), client, place),
-    }
-}
-
-/// Ends the client's calls that haven't ended.
-fn close(entries: &mut [Entry], client: u8, place: u32)
-    ensures { entries.new ≡ map (closed client place) entries.old }
-{
-    for k in 0..entries.len() {
-        close_one(&mut entries[k], client, place);
-    }
-}
-
-fn close_one(entry: &mut Entry, client: u8, place: u32)
-    ensures { entry.new ≡ closed client place entry.old }
-{
-    if entry.client == client && entry.last == 0 {
-        entry.last = place;
-    }
 }
 
 fn put_place(schedule: &mut Vec<u8>, client: u8)

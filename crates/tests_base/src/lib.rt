@@ -1,4 +1,4 @@
-//! Tests of what every crate stands on, of the parts of texts, and of the first path's scripts: worked
+//! Tests of what every crate stands on, and of the parts of texts: worked
 //! rows, failures in mid-stream, and each public call once.
 #![tactic(auto)]
 
@@ -12,5 +12,3 @@ mod printers;
 mod readers;
 #[cfg(test)]
 mod runs;
-#[cfg(test)]
-mod scripts;

@@ -8,6 +8,8 @@ mod migrations;
 #[cfg(test)]
 mod replays;
 #[cfg(test)]
+mod rows;
+#[cfg(test)]
 mod scripts;
 #[cfg(test)]
 mod steps;

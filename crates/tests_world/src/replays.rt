@@ -1,6 +1,5 @@
-use crate::scripts::{
-    FINISHED, FIRST, FIRST_REPORT, HOLE, HOLE_REPORT, PAST, PAST_REPORT, UNFINISHED,
-};
+use crate::rows::{ROWS, Row};
+use crate::scripts::{FIRST, FIRST_REPORT, HOLE, HOLE_REPORT, PAST, PAST_REPORT};
 use flr_base::{Ids, MemSink, MemSource, Octets};
 use flr_top::{flr_main, replay_main};
 use std::alloc::{AllocError, Global};
@@ -11,21 +10,56 @@ fn source(alloc: Global, input: &[u8]) -> Result<MemSource, AllocError> {
     Ok(MemSource::new(bytes, Ids::new(alloc)))
 }
 
+/// What stands behind the part in the text, if it has it.
+fn behind<'a>(text: &'a [u8], part: &[u8]) -> Option<&'a [u8]> {
+    for from in 0..text.len() {
+        if let Some(rest) = text[from..].strip_prefix(part) {
+            return Some(rest);
+        }
+    }
+    None
+}
+
+/// Whether the text has these parts, one behind the other.
+fn has_parts(text: &[u8], parts: &[&[u8]]) -> bool {
+    let mut rest = text;
+    for part in parts {
+        match behind(rest, part) {
+            Some(after) => rest = after,
+            None => return false,
+        }
+    }
+    true
+}
+
 #[test]
 fn scripts_are_replayed(rt: HostRuntime) -> Result<(), Fail> {
     let alloc = rt.alloc();
-    let rows: [(&[u8], u8, &[u8]); 6] = [
-        (FIRST, 0, FIRST_REPORT),
-        (HOLE, 0, HOLE_REPORT),
-        (PAST, 0, PAST_REPORT),
-        (FINISHED, 3, b"flr: schedule: place 5: client 1 finished\n"),
-        (UNFINISHED, 3, b"flr: schedule: client 1 unfinished\n"),
-        (b"flr-script 1\ntargets 1\n", 3, b"flr: not built\n"),
+    let whole: [(&[u8], &[u8]); 3] = [
+        (FIRST, FIRST_REPORT),
+        (HOLE, HOLE_REPORT),
+        (PAST, PAST_REPORT),
     ];
-    for (input, status, text) in rows {
+    for (input, text) in whole {
         let mut out = MemSink::new(alloc, Ids::new(alloc));
         let ended = replay_main(alloc, &mut source(alloc, input)?, &mut out);
-        assert!(rt; ended == status && out.into_bytes().as_slice() == text);
+        assert!(rt; ended == 0 && out.into_bytes().as_slice() == text);
+    }
+    for row in ROWS {
+        let mut out = MemSink::new(alloc, Ids::new(alloc));
+        let ended = replay_main(alloc, &mut source(alloc, row.input)?, &mut out);
+        assert!(rt; ended == row.status && has_parts(out.into_bytes().as_slice(), row.parts));
+    }
+    Ok(())
+}
+
+#[test]
+fn fronts_of_an_input_are_refused(rt: HostRuntime) -> Result<(), Fail> {
+    let alloc = rt.alloc();
+    for count in 0..FIRST.len() {
+        let mut out = MemSink::new(alloc, Ids::new(alloc));
+        let ended = replay_main(alloc, &mut source(alloc, &FIRST[..count])?, &mut out);
+        assert!(rt; ended == 3);
     }
     Ok(())
 }
@@ -33,11 +67,22 @@ fn scripts_are_replayed(rt: HostRuntime) -> Result<(), Fail> {
 #[test]
 fn words_are_looked_at(rt: HostRuntime) -> Result<(), Fail> {
     let alloc = rt.alloc();
-    let usage: &[u8] = b"flr: words: replay | migrate\n";
-    let rows: [(&[&str], u8, &[u8]); 5] = [
+    let usage: &[u8] = b"flr: words: replay | soak SEED CLIENTS CALLS | migrate\n";
+    let first: &[u8] =
+        b"soak seed 1 clients 1 calls 1 steps 2 reads 0 writes 0 resyncs 1 verifies 0 bytes 0 unfinished 0\n";
+    let second: &[u8] =
+        b"soak seed 1 clients 1 calls 2 steps 3 reads 0 writes 0 resyncs 2 verifies 0 bytes 0 unfinished 0\n";
+    let third: &[u8] =
+        b"soak seed 1 clients 1 calls 3 steps 8 reads 0 writes 1 resyncs 2 verifies 0 bytes 0 unfinished 0\n";
+    let rows: [(&[&str], u8, &[u8]); 10] = [
         (&["replay"], 0, FIRST_REPORT),
+        (&["soak", "1", "1", "1"], 0, first),
+        (&["soak", "1", "1", "2"], 0, second),
+        (&["soak", "1", "1", "3"], 0, third),
         (&["migrate"], 3, b"flr: script: line 7: misplaced\n"),
-        (&["run"], 2, usage),
+        (&["soak", "1", "0", "5"], 2, usage),
+        (&["run", "x"], 2, usage),
+        (&["--help"], 2, usage),
         (&["replay", "x"], 2, usage),
         (&[], 2, usage),
     ];

@@ -62,21 +62,3 @@ layout generation 2 state 0 next 2 2 components 1
 component 65537 mirror 1 flags init extent 0 EOF size 1048576 count 1 objects 0.1
 schedule 1*16
 ";
-
-/// A schedule that goes on where the client has no command left.
-pub const FINISHED: &[u8] = b"flr-script 1
-targets 1
-client 1
-lfs setstripe /a
-read /a 0 5
-schedule 1*5
-";
-
-/// A schedule that ends before the client's last command does.
-pub const UNFINISHED: &[u8] = b"flr-script 1
-targets 1
-client 1
-lfs setstripe /a
-read /a 0 5
-schedule 1*3
-";

@@ -1,7 +1,8 @@
 use crate::scripts::FIRST;
-use first_path_script::read_replay;
-use flr_world::{CallAnswer, CallEntry, CallKind, Layout, StepAnswer, World};
+use flr_world::World;
+use script_text::read_replay;
 use std::test::Fail;
+use turn_cell::{StepAnswer, Stepped};
 
 fn is_send<T: Send + Drop>(_value: T) -> bool {
     true
@@ -31,24 +32,21 @@ fn the_world_steps(rt: HostRuntime) -> Result<(), Fail> {
     for (fixed, called) in ROWS {
         let answers = (world.unfinished(), world.step(2), world.step(1));
         assert!(rt; answers == (Some(1), StepAnswer::Unknown, StepAnswer::Stepped));
-        assert!(rt; (world.entries().len(), world.target().calls().len()) == (fixed, called));
+        let calls = match world.targets().len() {
+            1 => world.targets().at(0).calls().len(),
+            _ => 0,
+        };
+        assert!(rt; (world.entries().len(), calls) == (fixed, called));
     }
-    assert!(rt; (world.unfinished(), world.step(1)) == (None, StepAnswer::Finished));
-    let sent = CallEntry {
-        kind: CallKind::Write,
-        object: 1,
-        offset: 0,
-        length: 3,
-        version: 2,
-        answer: CallAnswer::Ok,
-    };
-    assert!(rt; matches!(world.target().calls(), [first, _] if *first == sent));
-    let written = Layout {
-        generation: 2,
-        init: true,
-    };
-    assert!(rt; matches!(world.files(), [file] if file.size == 3 && file.layout == written));
-    let counts = (world.schedule().len(), world.script().commands(1).len());
-    assert!(rt; counts == (11, 3) && is_send(world));
+    assert!(rt;
+        (world.unfinished(), world.left(), world.step(1)) == (None, 0, StepAnswer::Finished)
+    );
+    let counts = (
+        world.schedule().len(),
+        world.places(),
+        world.meta().files(),
+        world.script().clients(),
+    );
+    assert!(rt; counts == (11, 11, 1, 1) && is_send(world));
     Ok(())
 }

@@ -1,4 +1,0 @@
-pub mod Commands
-pub mod Scripts
-pub mod Replays
-pub mod Reading

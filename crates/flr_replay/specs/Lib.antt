@@ -1,0 +1,4 @@
+pub mod Following
+pub mod Lines
+pub mod Replays
+pub mod Outcomes

@@ -1,0 +1,9 @@
+//! `flr replay`: a script is played along its schedule, and the report of that run is written.
+#![tactic(auto)]
+
+mod follow;
+mod lines;
+mod main_call;
+mod play;
+
+pub use main_call::replay_main;

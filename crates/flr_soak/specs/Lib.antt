@@ -1,0 +1,4 @@
+pub mod Soaking
+pub mod Trying
+pub mod Counts
+pub mod Kinds
