@@ -5,6 +5,7 @@ use flr_base::{FromRead, ToWrite};
 use flr_top::flr_main;
 use std::process::ExitCode;
 use std::{env, io};
+use turn_crew::FreeGate;
 
 /// What the program ends with where memory runs out before its words are known.
 const NO_MEMORY: u8 = 6;
@@ -25,5 +26,12 @@ fn main(rt: HostRuntime) -> ExitCode {
     };
     let mut input = FromRead::new(rt.reader());
     let mut out = ToWrite::new(io::writer(&rt));
-    ExitCode::from(flr_main(rt.alloc(), words.as_slice(), &mut input, &mut out))
+    ExitCode::from(flr_main(
+        &rt,
+        rt.alloc(),
+        words.as_slice(),
+        &mut input,
+        &mut out,
+        &FreeGate,
+    ))
 }

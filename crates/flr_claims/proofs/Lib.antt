@@ -5,5 +5,5 @@ mod NameLaws
 mod CopyLaws
 mod MetaWaits
 mod CallWaits
-mod BlockingLaws
+pub mod BlockingLaws
 mod RefusalLaws

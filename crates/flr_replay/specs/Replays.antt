@@ -7,15 +7,14 @@ use Rattle.script_text.specs.declared.error.ScriptError.TheVariants as errors
 use Rattle.script_text.specs.Grammar.{SpellsReplay}
 use Rattle.script_text.specs.Refusals.{refusal_line}
 use Rattle.script_text.specs.Replays.{replay_of}
-use Rattle.meta_server.specs.Sound.{IsSound}
 use Rattle.flr_steps.specs.Reports.{text_of_run}
 use Rattle.flr_steps.specs.Schedules.{IsCutShort, IsStopped, IsTaken, Why, places_of}
 use Rattle.flr_steps.specs.States.{State}
 use Rattle.flr_claims.specs.Histories.{IsWhole}
-use Rattle.flr_past.specs.Sentences.{AreInOrder}
+use Rattle.flr_world.specs.Claims.{IsSoundRun}
 use Rattle.flr_replay.specs.Lines.{cut_short_line, stopped_line}
 
--- status 0: the bytes spell a script and a schedule that it takes, and the text is the report of that run. Every command stands in it once and has ended, within its interval, at a point of its own and in its client's order; and the files are sound: each layout is valid, with a wholly fresh mirror
+-- status 0: the bytes spell a script and a schedule that it takes, and the text is the report of that run. Every command stands in it once and has ended, and the run is sound
 pub record IsReport (bytes text : List ℕ) : Type 0 where
   pub script : ScriptView
   pub runs : List ClientRun
@@ -24,8 +23,7 @@ pub record IsReport (bytes text : List ℕ) : Type 0 where
   pub taken : IsTaken script (places_of runs) last
   pub written : text ≡ text_of_run last
   pub whole : IsWhole last.script last.entries
-  pub order : AreInOrder last
-  pub sound : IsSound last.shared.meta
+  pub sound : IsSoundRun last
 
 -- the bytes are no script with a schedule, for the one cause that the text tells
 pub record IsNoReplay (bytes text : List ℕ) : Type 0 where

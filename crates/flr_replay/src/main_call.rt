@@ -1,35 +1,19 @@
 //! The call of `flr replay`.
 
-ghost use Rattle.std.specs.Prelude.{◌≡◌, ◌⊎◌, IfSome};
+ghost use Rattle.std.specs.Prelude.{◌≡◌, IfSome};
 ghost use Rattle.std.specs.Io.KnownBytes.{Appends};
 ghost use Rattle.flr_base.specs.Causes.{Rose};
-ghost use Rattle.flr_statuses.specs.Statuses.{IsStatus, LeavesFront, TakesFront, Tells, TellsFront, read_fault_line};
-ghost use Rattle.flr_steps.specs.Reports.{text_of_run};
+ghost use Rattle.flr_statuses.specs.Statuses.{IsStatus, LeavesFront, Tells, TellsFront, read_fault_line};
 ghost use Rattle.flr_replay.specs.Replays.{IsRefusal, IsReport};
 
 use crate::play::{Played, replay};
 use flr_base::{NoMemory, ReadError, Sink, Source, read_all};
 use flr_statuses::written;
-use flr_world::World;
-use report_text::WriteError;
+use flr_world::reported;
 use std::alloc::Global;
 
 /// How many bytes a script and its schedule may have.
 const MOST_OF_INPUT: u32 = 67108864;
-
-/// Writes the report of a world.
-fn reported<K: Sink>(world: &World, out: &mut K) -> u8
-    ensures whole { result ≡ 0 → Appends (K.taken out.old) (K.taken out.new) (text_of_run world.now) }
-    ensures cause { result ≡ 5 → Rose (K.faults out.old) (K.faults out.new) }
-    ensures front { TakesFront (K.taken out.old) (K.taken out.new) (text_of_run world.now) }
-    ensures status { (result ≡ 0) ⊎ ((result ≡ 5) ⊎ (result ≡ 6)) }
-{
-    match world.report(out) {
-        Ok(()) => 0,
-        Err(WriteError::Failed) => 5,
-        Err(WriteError::NoMemory) => 6,
-    }
-}
 
 /// Reads a script with its schedule line, makes the steps of the schedule, and writes the report.
 ///

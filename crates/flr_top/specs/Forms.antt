@@ -1,7 +1,10 @@
 -- What the words of the program ask for.
 use Rattle.std.specs.Prelude.{List, ℕ, [], ◌∷◌, ◌++◌, codes, map, String, string_bytes}
 use Rattle.std.specs.declared.alloc.Global.{Global}
-use Rattle.flr_words.specs.Words.{IsMigrate, IsOther, IsReplay, IsSoak}
+use Rattle.flr_words.specs.Words.{IsMigrate, IsOther, IsReplay, IsRun, IsSoak}
+
+abbrev pub AsksRun : List (String Global) → Type 0
+AsksRun words = IsRun (map string_bytes words)
 
 abbrev pub AsksReplay : List (String Global) → Type 0
 AsksReplay words = IsReplay (map string_bytes words)
@@ -18,4 +21,4 @@ AsksNothing words = IsOther (map string_bytes words)
 
 -- the line that says which words are known
 abbrev pub words_line : List ℕ
-words_line = codes "flr: words: replay | soak SEED CLIENTS CALLS | migrate" ++ 10 ∷ []
+words_line = codes "flr: words: run | replay | soak SEED CLIENTS CALLS | migrate" ++ 10 ∷ []

@@ -4,30 +4,44 @@ ghost use Rattle.std.specs.Prelude.{◌≡◌, ◌⊎◌, ℕ, IfSome};
 ghost use Rattle.std.specs.Io.KnownBytes.{Appends, Keeps};
 ghost use Rattle.flr_base.specs.Causes.{Rose};
 ghost use Rattle.flr_statuses.specs.Statuses.{IsStatus, LeavesFront, TakesFront, Tells, TellsFront, Told, TookFront, read_fault_line};
-ghost use Rattle.flr_migrate.specs.Migrations.{IsMigrated, IsRefusal as IsNotMigrated};
+ghost use Rattle.flr_migrate.specs.Migrations.{IsMigrated, IsNoScript, IsRefusal as IsNotMigrated};
 ghost use Rattle.flr_replay.specs.Replays.{IsReport, IsRefusal as IsNotReplayed};
+ghost use Rattle.flr_run.specs.Runs.{IsReport as IsReportOfRun};
 ghost use Rattle.flr_soak.specs.Counts.{IsSoakLine};
-ghost use Rattle.flr_top.specs.Forms.{AsksMigrate, AsksNothing, AsksReplay, AsksSoak, words_line};
+ghost use Rattle.flr_top.specs.Forms.{AsksMigrate, AsksNothing, AsksReplay, AsksRun, AsksSoak, words_line};
 
 use flr_base::{NoMemory, Sink, Source};
 use flr_migrate::migrate_main;
 use flr_replay::replay_main;
+use flr_run::run_main;
 use flr_soak::soak_main;
 use flr_statuses::written;
 use flr_words::{Words, read_words};
 use std::alloc::Global;
+use std::sync::Wait;
+use std::thread::Threads;
+use turn_crew::Gate;
 
-/// The program: `replay`, `soak SEED CLIENTS CALLS` or `migrate`, by its words.
+/// The program: `run`, `replay`, `soak SEED CLIENTS CALLS` or `migrate`, by its words.
 ///
 /// Status 2: the words are others, and one line says which are known. The source isn't touched. The other
-/// statuses are those of `replay_main`, `soak_main` and `migrate_main`, which answer and write as they do
-/// by themselves. Status 6 comes also where memory runs out in the reading of the words.
-pub fn flr_main<S: Source, K: Sink>(
+/// statuses are those of `run_main`, `replay_main`, `soak_main` and `migrate_main`, which answer and write as
+/// they do by themselves. Status 6 comes also where memory runs out in the reading of the words. At `run`
+/// the gate is called by the thread of each client, and the call may wait without end.
+pub fn flr_main<S: Source, K: Sink, G: Gate + Sync, R: Threads + Wait + Sync>(
+    rt: &R,
     alloc: Global,
     words: &[String],
     input: &mut S,
     out: &mut K,
+    gate: &G,
 ) -> u8
+    // Run: the input spells a script, and what is written is the report of a run of it.
+    ensures ran { result ≡ 0 → AsksRun words.now → IfSome (S.left input.old) (λ bytes. Tells IsReportOfRun bytes (K.taken out.old) (K.taken out.new)) }
+    ensures not_run { result ≡ 3 → AsksRun words.now → IfSome (S.left input.old) (λ bytes. Tells IsNoScript bytes (K.taken out.old) (K.taken out.new)) }
+    ensures run_front { result ≡ 5 → AsksRun words.now → IfSome (S.left input.old) (λ bytes. TellsFront IsReportOfRun IsNoScript bytes (S.faults input.old) (S.faults input.new) (K.taken out.old) (K.taken out.new)) }
+    ensures run_left { result ≡ 6 → AsksRun words.now → IfSome (S.left input.old) (λ bytes. LeavesFront IsReportOfRun bytes (K.taken out.old) (K.taken out.new)) }
+    ensures runs { AsksRun words.now → IsStatus result }
     // Replay: the input spells a script and a schedule, and what is written is the report of that very run.
     ensures replayed { result ≡ 0 → AsksReplay words.now → IfSome (S.left input.old) (λ bytes. Tells IsReport bytes (K.taken out.old) (K.taken out.new)) }
     ensures not_replayed { result ≡ 3 → AsksReplay words.now → IfSome (S.left input.old) (λ bytes. Tells IsNotReplayed bytes (K.taken out.old) (K.taken out.new)) }
@@ -56,6 +70,7 @@ pub fn flr_main<S: Source, K: Sink>(
     ensures write { result ≡ 5 → Rose (K.faults out.old) (K.faults out.new) }
 {
     match read_words(alloc, words) {
+        Ok(Words::Run) => run_main(rt, alloc, input, out, gate),
         Ok(Words::Replay) => replay_main(alloc, input, out),
         Ok(
             Words::Soak {
@@ -67,7 +82,7 @@ pub fn flr_main<S: Source, K: Sink>(
         Ok(Words::Migrate) => migrate_main(alloc, input, out),
         Ok(Words::Other) => written(
             out,
-            b"flr: words: replay | soak SEED CLIENTS CALLS | migrate\n",
+            b"flr: words: run | replay | soak SEED CLIENTS CALLS | migrate\n",
             2,
         ),
         Err(NoMemory) => 6,

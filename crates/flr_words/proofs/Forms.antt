@@ -19,18 +19,21 @@ use Rattle.clap.proofs.FaultLemmas.{stopped_fault}
 use Rattle.clap.proofs.WalkLemmas.{walk_stopped}
 use Rattle.flr_words.specs.CommandLine.{command_line, is_flag}
 
--- the command line as it is built, and its three forms
+-- the command line as it is built, and its four forms
 abbrev line : App
 line = built command_line
 
+abbrev running : Shape
+running = slice_index_or line.subs 0 line.top
+
 abbrev replaying : Shape
-replaying = slice_index_or line.subs 0 line.top
+replaying = slice_index_or line.subs 1 line.top
 
 abbrev migrating : Shape
-migrating = slice_index_or line.subs 1 line.top
+migrating = slice_index_or line.subs 2 line.top
 
 abbrev soaking : Shape
-soaking = slice_index_or line.subs 2 line.top
+soaking = slice_index_or line.subs 3 line.top
 
 -- where a walk stands at a word for which nothing waits
 abbrev at : ℕ → Held → Walk
@@ -215,6 +218,10 @@ module _ (name : Text) (s : Shape) (enters : Enters name s) (words : List Text) 
   form_met : subcommand_of command_line (name ∷ words) ≡ Some (s.name, rows_after s.rules [] words)
   form_met = ap (λ (w : Walk). entered line w.stopped) stopped ∙ ap (option_map (λ t. rows_at t words)) enters.found
 
+run_enters : Enters (codes "run") running
+unfolding walked
+run_enters = record { walks = refl; passes = refl; found = refl }
+
 replay_enters : Enters (codes "replay") replaying
 unfolding walked
 replay_enters = record { walks = refl; passes = refl; found = refl }
@@ -228,8 +235,8 @@ unfolding walked
 soak_enters = record { walks = refl; passes = refl; found = refl }
 
 -- any other word names none, and is refused
-unnamed_word : (word : Text) → bytes_eq (codes "replay") word ≡ false → bytes_eq (codes "migrate") word ≡ false → bytes_eq (codes "soak") word ≡ false → find (answers_to word) (names_of line) ≡ None
-unnamed_word word replay migrate soak = rw (replay, migrate, soak) refl
+unnamed_word : (word : Text) → bytes_eq (codes "run") word ≡ false → bytes_eq (codes "replay") word ≡ false → bytes_eq (codes "migrate") word ≡ false → bytes_eq (codes "soak") word ≡ false → find (answers_to word) (names_of line) ≡ None
+unnamed_word word run replay migrate soak = rw (run, replay, migrate, soak) refl
 
 refused : (word : Text) (words : List Text) → turn_fault line.top (names_of line) (at 1 nothing_held) word ≡ kind.UnknownArgument ∷ kind.InvalidSubcommand ∷ []
     → fault_of command_line (word ∷ words) ≡ kind.UnknownArgument ∷ kind.InvalidSubcommand ∷ []
@@ -242,6 +249,10 @@ refused word words turn =
 first_alone : (k : Kinds) → or_else k [] ≡ k
 first_alone [] = refl
 first_alone (x ∷ xs) = refl
+
+pub run_passes : fault_of command_line (codes "run" ∷ []) ≡ []
+unfolding walk_fault defaults_fault
+run_passes = form_fault (codes "run") running run_enters []
 
 pub replay_passes : fault_of command_line (codes "replay" ∷ []) ≡ []
 unfolding walk_fault defaults_fault
@@ -257,7 +268,7 @@ three_pass seed clients calls a b c =
 
 -- what words are that pass
 abbrev pub Passing : List Text → Type 0
-Passing words = (words ≡ codes "replay" ∷ []) ⊎ ((words ≡ codes "migrate" ∷ []) ⊎ ((numbers : List Text) × (words ≡ codes "soak" ∷ numbers) × AreThree numbers))
+Passing words = (words ≡ codes "run" ∷ []) ⊎ ((words ≡ codes "replay" ∷ []) ⊎ ((words ≡ codes "migrate" ∷ []) ⊎ ((numbers : List Text) × (words ≡ codes "soak" ∷ numbers) × AreThree numbers)))
 
 -- words that pass behind the name of a form pass in that form
 behind : (name : Text) (s : Shape) → Enters name s → (word : Text) (words : List Text) → bytes_eq name word ≡ true → fault_of command_line (word ∷ words) ≡ []
@@ -272,27 +283,35 @@ unfolding walk_fault defaults_fault
 passing [] plain passes = absurd cc
 passing (word ∷ words) plain passes =
     let p = or_parts (is_flag word) (list_any is_flag words) plain in
-    elim (cases_Bool (bytes_eq (codes "replay") word)) [
+    elim (cases_Bool (bytes_eq (codes "run") word)) [
       | inl same ↦
-          let b = behind (codes "replay") replaying replay_enters word words same passes in
-          inl (ap₂ ◌∷◌ (sym b.0) (no_words replaying words refl p.1 b.1))
-      | inr replay ↦ elim (cases_Bool (bytes_eq (codes "migrate") word)) [
+          let b = behind (codes "run") running run_enters word words same passes in
+          inl (ap₂ ◌∷◌ (sym b.0) (no_words running words refl p.1 b.1))
+      | inr run ↦ elim (cases_Bool (bytes_eq (codes "replay") word)) [
         | inl same ↦
-            let b = behind (codes "migrate") migrating migrate_enters word words same passes in
-            inr (inl (ap₂ ◌∷◌ (sym b.0) (no_words migrating words refl p.1 b.1)))
-        | inr migrate ↦ elim (cases_Bool (bytes_eq (codes "soak") word)) [
+            let b = behind (codes "replay") replaying replay_enters word words same passes in
+            inr (inl (ap₂ ◌∷◌ (sym b.0) (no_words replaying words refl p.1 b.1)))
+        | inr replay ↦ elim (cases_Bool (bytes_eq (codes "migrate") word)) [
           | inl same ↦
-              let b = behind (codes "soak") soaking soak_enters word words same passes in
-              inr (inr (words, ap (λ (w : Text). w ∷ words) (sym b.0), three_words words p.1 b.1))
-          | inr soak ↦
-              let fails : fault_of command_line (word ∷ words) ≡ kind.UnknownArgument ∷ kind.InvalidSubcommand ∷ [] =
-              refused word words (turn_value (names_of line) nothing_held word p.0 (unnamed_word word replay migrate soak) line.top 1) in
-              absurd cc
+              let b = behind (codes "migrate") migrating migrate_enters word words same passes in
+              inr (inr (inl (ap₂ ◌∷◌ (sym b.0) (no_words migrating words refl p.1 b.1))))
+          | inr migrate ↦ elim (cases_Bool (bytes_eq (codes "soak") word)) [
+            | inl same ↦
+                let b = behind (codes "soak") soaking soak_enters word words same passes in
+                inr (inr (inr (words, ap (λ (w : Text). w ∷ words) (sym b.0), three_words words p.1 b.1)))
+            | inr soak ↦
+                let fails : fault_of command_line (word ∷ words) ≡ kind.UnknownArgument ∷ kind.InvalidSubcommand ∷ [] =
+                refused word words (turn_value (names_of line) nothing_held word p.0 (unnamed_word word run replay migrate soak) line.top 1) in
+                absurd cc
+          ]
         ]
       ]
     ]
 
 -- what clap tells of them
+pub run_met : subcommand_of command_line (codes "run" ∷ []) ≡ Some (codes "run", [])
+run_met = form_met (codes "run") running run_enters []
+
 pub replay_met : subcommand_of command_line (codes "replay" ∷ []) ≡ Some (codes "replay", [])
 replay_met = form_met (codes "replay") replaying replay_enters []
 

@@ -27,4 +27,4 @@ bare = on_top (λ s. record s {
 
 -- a form for each call
 abbrev pub command_line : App
-command_line = with_subcommand (with_subcommand (with_subcommand bare (new_shape (codes "replay"))) (new_shape (codes "migrate"))) soak.top
+command_line = with_subcommand (with_subcommand (with_subcommand (with_subcommand bare (new_shape (codes "run"))) (new_shape (codes "replay"))) (new_shape (codes "migrate"))) soak.top

@@ -5,6 +5,10 @@ use Rattle.std.specs.declared.alloc.Global.{Global}
 use Rattle.flr_words.specs.declared.words.Words.{Words}
 use Rattle.flr_words.specs.declared.words.Words.TheVariants as asked
 
+-- the one word run
+abbrev pub IsRun : List (List ℕ) → Type 0
+IsRun words = words ≡ codes "run" ∷ []
+
 -- the one word replay
 abbrev pub IsReplay : List (List ℕ) → Type 0
 IsReplay words = words ≡ codes "replay" ∷ []
@@ -24,10 +28,11 @@ pub record IsSoak (seed clients calls : ℕ) (words : List (List ℕ)) : Type 0 
 
 -- none of these
 abbrev pub IsOther : List (List ℕ) → Type 0
-IsOther words = (IsReplay words → ⊥) × (IsMigrate words → ⊥) × ((seed clients calls : ℕ) → IsSoak seed clients calls words → ⊥)
+IsOther words = (IsRun words → ⊥) × (IsReplay words → ⊥) × (IsMigrate words → ⊥) × ((seed clients calls : ℕ) → IsSoak seed clients calls words → ⊥)
 
 -- words of these texts ask for this
 abbrev pub AskFor : List (List ℕ) → Words → Type 0
+AskFor words asked.Run = IsRun words
 AskFor words asked.Replay = IsReplay words
 AskFor words asked.Migrate = IsMigrate words
 AskFor words (asked.Soak seed clients calls) = IsSoak seed clients calls words

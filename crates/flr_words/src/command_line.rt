@@ -28,6 +28,7 @@ fn soak<'a>(alloc: Global) -> Result<Command<'a>, AllocError>
 fn command_line<'a>(alloc: Global) -> Result<Command<'a>, AllocError>
     ensures { IfOk result (λ command. app_of command ≡ command_line) }
 {
+    let run = Command::new(alloc, "run");
     let replay = Command::new(alloc, "replay");
     let migrate = Command::new(alloc, "migrate");
     let soak = soak(alloc)?;
@@ -36,6 +37,7 @@ fn command_line<'a>(alloc: Global) -> Result<Command<'a>, AllocError>
         .disable_help_flag(true)
         .disable_help_subcommand(true)
         .subcommand_required(true)
+        .subcommand(run)?
         .subcommand(replay)?
         .subcommand(migrate)?
         .subcommand(soak)

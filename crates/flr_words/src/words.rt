@@ -21,6 +21,8 @@ const MOST_CALLS: u64 = 255;
 /// What the words behind the program's name ask for.
 #[derive(Clone, Copy, Debug, PartialEq, Eq)]
 pub enum Words {
+    /// The one word `run`.
+    Run,
     /// The one word `replay`.
     Replay,
     /// The one word `migrate`.
@@ -92,6 +94,7 @@ fn soak_of(matches: &ArgMatches<'_>) -> Words
 
 /// What the form asks for that `clap` found.
 fn asked(matches: &ArgMatches<'_>) -> Words
+    ensures run { (rows : List Row) → subcommand_rows_of matches.now ≡ Some (codes "run", rows) → result ≡ Words.Run }
     ensures replay { (rows : List Row) → subcommand_rows_of matches.now ≡ Some (codes "replay", rows) → result ≡ Words.Replay }
     ensures migrate { (rows : List Row) → subcommand_rows_of matches.now ≡ Some (codes "migrate", rows) → result ≡ Words.Migrate }
     ensures soak { (rows : List Row) (seed clients calls : List ℕ)
@@ -101,6 +104,7 @@ fn asked(matches: &ArgMatches<'_>) -> Words
         → AskFor (codes "soak" ∷ seed ∷ clients ∷ calls ∷ []) result }
 {
     match matches.subcommand() {
+        Some(("run", _)) => Words::Run,
         Some(("replay", _)) => Words::Replay,
         Some(("migrate", _)) => Words::Migrate,
         Some(("soak", numbers)) => soak_of(numbers),

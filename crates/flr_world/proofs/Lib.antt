@@ -8,3 +8,4 @@ pub mod Counting
 pub mod Answering
 pub mod Reports
 pub mod Starting
+pub mod Claims

@@ -4,6 +4,8 @@
 mod member;
 mod notes;
 mod report;
+mod status;
 mod world;
 
+pub use status::reported;
 pub use world::World;

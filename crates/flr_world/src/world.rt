@@ -4,6 +4,7 @@ ghost use Rattle.std.specs.Prelude.{◌≡◌, ◌<◌, ◌+◌, ◌≤◌, ◌�
 ghost use Rattle.script_values.specs.Scripts.{command_after};
 ghost use Rattle.flr_steps.specs.States.{IsRun, new_client, start, unfinished_of};
 ghost use Rattle.flr_world.specs.Answers.{StepGives};
+ghost use Rattle.flr_world.specs.Claims.{IsSoundRun};
 ghost use Rattle.flr_world.specs.Counts.{unfinished_count};
 
 use crate::member::{Member, new_members};
@@ -94,7 +95,7 @@ impl World {
     }
 
     /// A world is a state of a run, always.
-    fn keeps_run(&self)
+    pub fn keeps_run(&self)
         ensures { IsRun self.now }
     {
         let _ = &self.script;
@@ -142,9 +143,15 @@ impl World {
     }
 
     /// The client makes its next step. All answers but `Stepped` leave the world as it was.
+    ///
+    /// Whatever was answered, the calls so far stand in order, each with a moment of its own between its first
+    /// and its last step; each layout is valid, with a wholly fresh mirror; each change of a layout that a step
+    /// of the run made is one of those that a metadata server makes; while some client has a command left, some
+    /// client can make its next step; and there are no more steps than the script's work.
     pub fn step(&mut self, client: u8) -> StepAnswer
         ensures step { StepGives self.old client result self.new }
         ensures run { IsRun self.new }
+        ensures sound { IsSoundRun self.new }
     {
         if client == 0 || client > self.script.clients() {
             return StepAnswer::Unknown;

@@ -1,13 +1,14 @@
-use crate::Budget;
+use crate::scripts::{TWO, world_of};
+use std::alloc::{AllocError, Global};
 use std::hint;
 use std::sync::atomic::{AtomicBool, Ordering};
 use std::test::Fail;
 use turn_crew::{FreeGate, Gate, run_crew};
 
-/// How many steps each client makes.
-const MOST: u8 = 4;
+/// How many steps a client of `TWO` makes.
+const STEPS: u32 = 11;
 
-/// Holds client 1 behind its second step until client 2 has made all of its steps.
+/// Holds client 1 inside its write until client 2 has made all of its steps.
 #[derive(Drop)]
 struct HoldGate {
     open: AtomicBool,
@@ -29,10 +30,30 @@ impl Gate for HoldGate {
     }
 
     fn after_step(&self, client: u8, made: u32) {
-        if client == 2 && made == u32::from(MOST) {
+        if client == 2 && made == STEPS {
             self.open.store(true, Ordering::SeqCst);
         }
     }
+}
+
+/// 16 clients, each of which writes ten times to one file, which the first of them makes.
+fn many(alloc: Global) -> Result<Vec<u8>, AllocError> {
+    let mut text = Vec::from_slice(alloc, b"flr-script 1\ntargets 2\n")?;
+    for client in 1..=16u8 {
+        text.extend_from_slice(b"client ")?;
+        if client > 9 {
+            text.push(b'1')?;
+        }
+        text.push(b'0' + client % 10)?;
+        text.push(b'\n')?;
+        if client == 1 {
+            text.extend_from_slice(b"lfs mirror create -N2 /a\n")?;
+        }
+        for _ in 0..10 {
+            text.extend_from_slice(b"write /a 0 61*3\n")?;
+        }
+    }
+    Ok(text)
 }
 
 #[test]
@@ -41,18 +62,30 @@ fn a_held_client_holds_no_other(rt: HostRuntime) -> Result<(), Fail> {
         open: AtomicBool::new(false),
         gave_up: AtomicBool::new(false),
     };
-    let Ok(value) = run_crew(&rt, rt.alloc(), Budget::new(rt.alloc(), MOST), 3, &gate) else {
+    let Some(world) = world_of(rt.alloc(), TWO) else {
+        panic!(rt; "no world")
+    };
+    let Ok(world) = run_crew(&rt, rt.alloc(), world, 2, &gate) else {
         panic!(rt; "no memory")
     };
-    assert!(rt; (value.steps().len(), gate.gave_up.load(Ordering::SeqCst)) == (12, false));
+    let ended = (
+        world.schedule().len(),
+        world.unfinished(),
+        gate.gave_up.load(Ordering::SeqCst),
+    );
+    assert!(rt; ended == (22, None, false));
     Ok(())
 }
 
 #[test]
 fn sixteen_clients_make_all_their_steps(rt: HostRuntime) -> Result<(), Fail> {
-    let Ok(value) = run_crew(&rt, rt.alloc(), Budget::new(rt.alloc(), 100), 16, &FreeGate) else {
+    let text = many(rt.alloc())?;
+    let Some(world) = world_of(rt.alloc(), &text) else {
+        panic!(rt; "no world")
+    };
+    let Ok(world) = run_crew(&rt, rt.alloc(), world, 16, &FreeGate) else {
         panic!(rt; "no memory")
     };
-    assert!(rt; value.steps().len() == 1600);
+    assert!(rt; (world.entries().len(), world.unfinished()) == (161, None));
     Ok(())
 }

@@ -1,10 +1,11 @@
-//! Tests of the turn cell and the crew, over a small value.
+//! Tests of the turn cell, the crew and `flr run`, over worlds.
 #![tactic(auto)]
 
-mod budget;
 #[cfg(test)]
 mod crews;
 #[cfg(test)]
+mod runs;
+#[cfg(test)]
+mod scripts;
+#[cfg(test)]
 mod turns;
-
-pub use budget::{Budget, Most};

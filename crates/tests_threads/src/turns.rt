@@ -1,11 +1,14 @@
-use crate::Budget;
+use crate::scripts::{ONE, world_of};
 use std::test::Fail;
 use turn_cell::{StepAnswer, TurnCell};
 use turn_crew::{Tried, step_as};
 
 #[test]
 fn one_seat_has_the_turn(rt: HostRuntime) -> Result<(), Fail> {
-    let Ok((cell, seat)) = TurnCell::new(rt.alloc(), Budget::new(rt.alloc(), 1)) else {
+    let Some(world) = world_of(rt.alloc(), ONE) else {
+        panic!(rt; "no world")
+    };
+    let Ok((cell, seat)) = TurnCell::new(rt.alloc(), world) else {
         panic!(rt; "no memory")
     };
     let (first, second) = cell.split(seat);
@@ -25,14 +28,14 @@ fn one_seat_has_the_turn(rt: HostRuntime) -> Result<(), Fail> {
     let Ok(mut turn) = cell.try_turn(second) else {
         panic!(rt; "no second turn")
     };
-    let again = turn.step(1);
+    let again = turn.step(2);
     let second = turn.finish();
     let seat = cell.join(first, second);
-    let Ok(value) = cell.close(seat) else {
+    let Ok(world) = cell.close(seat) else {
         panic!(rt; "not closed")
     };
     assert!(rt; matches!(tried, Tried::NotNow));
-    assert!(rt; (made, again) == (StepAnswer::Stepped, StepAnswer::Finished));
-    assert!(rt; value.steps() == [1].as_slice());
+    assert!(rt; (made, again) == (StepAnswer::Stepped, StepAnswer::Unknown));
+    assert!(rt; world.schedule() == [1].as_slice());
     Ok(())
 }

@@ -4,6 +4,7 @@ use flr_base::{Ids, MemSink, MemSource, Octets};
 use flr_top::{flr_main, replay_main};
 use std::alloc::{AllocError, Global};
 use std::test::Fail;
+use turn_crew::FreeGate;
 
 fn source(alloc: Global, input: &[u8]) -> Result<MemSource, AllocError> {
     let bytes = Octets::from_vec(Vec::from_slice(alloc, input)?);
@@ -67,15 +68,16 @@ fn fronts_of_an_input_are_refused(rt: HostRuntime) -> Result<(), Fail> {
 #[test]
 fn words_are_looked_at(rt: HostRuntime) -> Result<(), Fail> {
     let alloc = rt.alloc();
-    let usage: &[u8] = b"flr: words: replay | soak SEED CLIENTS CALLS | migrate\n";
+    let usage: &[u8] = b"flr: words: run | replay | soak SEED CLIENTS CALLS | migrate\n";
     let first: &[u8] =
         b"soak seed 1 clients 1 calls 1 steps 2 reads 0 writes 0 resyncs 1 verifies 0 bytes 0 unfinished 0\n";
     let second: &[u8] =
         b"soak seed 1 clients 1 calls 2 steps 3 reads 0 writes 0 resyncs 2 verifies 0 bytes 0 unfinished 0\n";
     let third: &[u8] =
         b"soak seed 1 clients 1 calls 3 steps 8 reads 0 writes 1 resyncs 2 verifies 0 bytes 0 unfinished 0\n";
-    let rows: [(&[&str], u8, &[u8]); 10] = [
+    let rows: [(&[&str], u8, &[u8]); 11] = [
         (&["replay"], 0, FIRST_REPORT),
+        (&["run"], 3, b"flr: script: line 7: misplaced\n"),
         (&["soak", "1", "1", "1"], 0, first),
         (&["soak", "1", "1", "2"], 0, second),
         (&["soak", "1", "1", "3"], 0, third),
@@ -92,7 +94,14 @@ fn words_are_looked_at(rt: HostRuntime) -> Result<(), Fail> {
             owned.push(word.to_string(alloc)?)?;
         }
         let mut out = MemSink::new(alloc, Ids::new(alloc));
-        let ended = flr_main(alloc, &owned, &mut source(alloc, FIRST)?, &mut out);
+        let ended = flr_main(
+            &rt,
+            alloc,
+            &owned,
+            &mut source(alloc, FIRST)?,
+            &mut out,
+            &FreeGate,
+        );
         assert!(rt; ended == status && out.into_bytes().as_slice() == text);
     }
     Ok(())

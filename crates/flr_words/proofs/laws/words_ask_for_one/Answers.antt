@@ -20,21 +20,30 @@ same_numbers words a b c x y z one other =
     cc
 
 ask_for_one : (words : List (List ℕ)) (one other : Words) → AskFor words one → AskFor words other → one ≡ other
+ask_for_one words asked.Run asked.Run h k = refl
+ask_for_one words asked.Run asked.Replay h k = absurd cc
+ask_for_one words asked.Run asked.Migrate h k = absurd cc
+ask_for_one words asked.Run (asked.Soak a b c) h k = let e = k.spelled in absurd cc
+ask_for_one words asked.Run asked.Other h k = absurd (k.0 h)
+ask_for_one words asked.Replay asked.Run h k = absurd cc
 ask_for_one words asked.Replay asked.Replay h k = refl
 ask_for_one words asked.Replay asked.Migrate h k = absurd cc
 ask_for_one words asked.Replay (asked.Soak a b c) h k = let e = k.spelled in absurd cc
-ask_for_one words asked.Replay asked.Other h k = absurd (k.0 h)
+ask_for_one words asked.Replay asked.Other h k = absurd (k.1 h)
+ask_for_one words asked.Migrate asked.Run h k = absurd cc
 ask_for_one words asked.Migrate asked.Replay h k = absurd cc
 ask_for_one words asked.Migrate asked.Migrate h k = refl
 ask_for_one words asked.Migrate (asked.Soak a b c) h k = let e = k.spelled in absurd cc
-ask_for_one words asked.Migrate asked.Other h k = absurd (k.1 h)
+ask_for_one words asked.Migrate asked.Other h k = absurd (k.2 h)
+ask_for_one words (asked.Soak a b c) asked.Run h k = let e = h.spelled in absurd cc
 ask_for_one words (asked.Soak a b c) asked.Replay h k = let e = h.spelled in absurd cc
 ask_for_one words (asked.Soak a b c) asked.Migrate h k = let e = h.spelled in absurd cc
 ask_for_one words (asked.Soak a b c) (asked.Soak x y z) h k = same_numbers words a b c x y z h k
-ask_for_one words (asked.Soak a b c) asked.Other h k = absurd (k.2 a b c h)
-ask_for_one words asked.Other asked.Replay h k = absurd (h.0 k)
-ask_for_one words asked.Other asked.Migrate h k = absurd (h.1 k)
-ask_for_one words asked.Other (asked.Soak a b c) h k = absurd (h.2 a b c k)
+ask_for_one words (asked.Soak a b c) asked.Other h k = absurd (k.3 a b c h)
+ask_for_one words asked.Other asked.Run h k = absurd (h.0 k)
+ask_for_one words asked.Other asked.Replay h k = absurd (h.1 k)
+ask_for_one words asked.Other asked.Migrate h k = absurd (h.2 k)
+ask_for_one words asked.Other (asked.Soak a b c) h k = absurd (h.3 a b c k)
 ask_for_one words asked.Other asked.Other h k = refl
 
 pub returns : goal.returns

@@ -10,6 +10,7 @@ use Rattle.flr_steps.specs.Conditions.{StepFits}
 use Rattle.flr_steps.specs.Runs.{HasCommand}
 use Rattle.flr_steps.specs.States.{Blocked, Finished, IsRun, State, Stepped, Unknown, next, noted}
 use Rattle.flr_world.specs.Worlds.{IsOnlyPending, IsWorld, pending_after, shown}
+use Rattle.flr_world.proofs.Claims.{runs_are_sound}
 use Rattle.flr_world.proofs.Steps.{aside, blocked, counted, finished, fits, has_command, moved, placed, short, stays, tried, unknown}
 use Rattle.flr_world.proofs.world.World.step.Goals as goal
 use Rattle.flr_world.proofs.world.World.step.Goals.{then-client-eq0-via-then-client-eq0, then-client-eq0-via-else-client-eq0+then-client-clients, then-is_err-via-then-is_err, then-is_err-via-else-is_err+then-is_err-2}
@@ -275,3 +276,21 @@ returns-in-NoMemory-clause-run c =
     (λ k here commanded kept. tried i.script i.meta i.targets i.locks i.members.items i.entries.items i.schedule.items c.self.invariant k m (record { caller = c.step.new.self; pending = m.pending }) c.in-Some.command.now c.step.new.meta c.step.new.targets c.step.new.locks c.reserve-else-is_err.new.self.items c.reserve.new.self.items here commanded c.in-NoMemory.ensures.step.0 refl kept c.in-NoMemory.ensures.step.1 c.reserve-else-is_err.ensures.items c.reserve.ensures.items)
     at asked c.in-NoMemory.ensures.aside in
     world.run
+
+pub returns-then-client-eq0-clause-sound : goal.returns-then-client-eq0-clause-sound
+returns-then-client-eq0-clause-sound c = runs_are_sound _ (returns-then-client-eq0-clause-run c)
+
+pub returns-then-is_err-clause-sound : goal.returns-then-is_err-clause-sound
+returns-then-is_err-clause-sound c = runs_are_sound _ (returns-then-is_err-clause-run c)
+
+pub returns-in-Moved-clause-sound : goal.returns-in-Moved-clause-sound
+returns-in-Moved-clause-sound c = runs_are_sound _ (returns-in-Moved-clause-run c)
+
+pub returns-in-Blocked-clause-sound : goal.returns-in-Blocked-clause-sound
+returns-in-Blocked-clause-sound c = runs_are_sound _ (returns-in-Blocked-clause-run c)
+
+pub returns-in-NoMemory-clause-sound : goal.returns-in-NoMemory-clause-sound
+returns-in-NoMemory-clause-sound c = runs_are_sound _ (returns-in-NoMemory-clause-run c)
+
+pub returns-in_default-clause-sound : goal.returns-in_default-clause-sound
+returns-in_default-clause-sound c = runs_are_sound _ (subst IsRun (sym (returns-in_default-clause-step c).1) (subst IsRun c.self.view_is c.self.invariant.run))

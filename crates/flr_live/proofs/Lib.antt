@@ -1,0 +1,10 @@
+pub mod Pieces
+pub mod Reading
+pub mod Needing
+pub mod Holders
+pub mod Knowing
+pub mod Bytes
+pub mod Walking
+pub mod Standing
+pub mod Ending
+pub mod Finishing

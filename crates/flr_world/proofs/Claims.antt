@@ -1,0 +1,22 @@
+-- Every run is sound.
+use Rattle.std.proofs.Common.{length}
+use Rattle.flr_steps.specs.States.{IsRun, State}
+use Rattle.flr_steps.proofs.Fronts.{fronts_are_runs}
+use Rattle.flr_steps.proofs.Inversion.{step_is}
+use Rattle.flr_layouts.proofs.Steps.{steps_explained}
+use Rattle.flr_live.proofs.Ending.{never_stuck}
+use Rattle.flr_past.proofs.Runs.{runs_are_in_order}
+use Rattle.flr_runs.proofs.Runs.{all_hold, runs_leave, runs_short}
+use Rattle.flr_world.specs.Claims.{ChangesAreExplained, IsSoundRun}
+
+changes : (s : State) → IsRun s → ChangesAreExplained s
+changes s run place c old new at made = steps_explained old new c (fronts_are_runs s old place run at) (runs_leave (length old.schedule)) (step_is old new c made)
+
+pub runs_are_sound : (s : State) → IsRun s → IsSoundRun s
+runs_are_sound s run = record {
+  order = runs_are_in_order s run;
+  files = (all_hold s run).servers.sound;
+  changes = changes s run;
+  live = λ c has. never_stuck s c run has;
+  short = runs_short s run;
+}
