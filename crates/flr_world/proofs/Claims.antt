@@ -7,6 +7,7 @@ use Rattle.flr_layouts.proofs.Steps.{steps_explained}
 use Rattle.flr_live.proofs.Ending.{never_stuck}
 use Rattle.flr_past.proofs.Runs.{runs_are_in_order}
 use Rattle.flr_runs.proofs.Runs.{all_hold, runs_leave, runs_short}
+use Rattle.flr_sole.proofs.Runs.{runs_hold_alone}
 use Rattle.flr_world.specs.Claims.{ChangesAreExplained, IsSoundRun}
 
 changes : (s : State) → IsRun s → ChangesAreExplained s
@@ -17,6 +18,7 @@ runs_are_sound s run = record {
   order = runs_are_in_order s run;
   files = (all_hold s run).servers.sound;
   changes = changes s run;
+  sole = runs_hold_alone s run (runs_leave (length s.schedule));
   live = λ c has. never_stuck s c run has;
   short = runs_short s run;
 }

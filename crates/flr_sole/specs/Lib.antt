@@ -1,0 +1,4 @@
+pub mod Sentences
+pub mod Copies
+pub mod Runs
+pub mod Laws
