@@ -27,6 +27,7 @@ use Rattle.flr_sole.specs.Sentences.{IsPast}
 use Rattle.flr_sole.proofs.Keeping.{alone, lands, now_attempts, now_opens, now_says, now_sent, stepped_sole, written}
 use Rattle.flr_sole.proofs.Making.{done_past, made_placed}
 use Rattle.flr_sole.proofs.Sending.{GivesUp, Turns}
+use Rattle.flr_sole.proofs.Targets.{Grows}
 use Rattle.flr_sole.proofs.Turning.{OnStep, step_on}
 
 -- who is there has a number from 1 on, and a place in the list
@@ -77,21 +78,38 @@ module _ (s : State) (c : ℕ) (tr : Trace) (h : Holds s) (known : Known s) (loc
       (stepped_sole s c tr h known locked sole client here (over client first) after (Adds (entry c client first (place_in s) (place_in s) reply takes)) (traced_by tr c call (then after) (Answered reply takes after)) (then after) (GivesUp refl) tt tt on fine.changes.meta (is_past after) fine.servers.sound (mine (then after)) (theirs (then after)))
   left_sole first (Blocked holder) t on fine left = absurd left
 
+module _ (s t : State) (c : ℕ) (tr : Trace) (h : Holds s) (known : Known s) (locked : Locked s) (sole : Sole s tr) (step : StepIs s c t) where
+  -- what the step of the call does
+  on_came : OnStep s.script.fails (place_in s) s.shared h.servers (lands s c tr h known locked sole) (attempt_of (call_now c step.client.call step.asked)) (doing_of tr c)
+      (λ after. done_with (is_idle step.client.call) (is_opening (call_now c step.client.call step.asked)) (place_in s) (made_by (place_in s) s.shared.targets after.targets) (doing_of tr c)) step.came
+  on_came =
+      let client : Client = step.client in
+      let of = h.clients c client step.here in
+      let le = h.script.form.few_mirrors in
+      let few = h.script.form.few_clients in
+      let good : IsCommand s.script.most s.script.targets (length s.script.clients) step.asked = is_command s.script c client.done step.asked h.script step.commanded in
+      let call : Running = call_now c client.call step.asked in
+      let is : IsCallOf c call = is_now c s.shared step.asked s.script.most s.script.targets (length s.script.clients) le few good client.call of.call in
+      let has : Has c s.shared.meta s.shared.locks (hand_of call) = has_now c s.shared step.asked s.script.most s.script.targets (length s.script.clients) le few good client.call of.has in
+      subst (λ (o : Outcome Running). OnStep s.script.fails (place_in s) s.shared h.servers (lands s c tr h known locked sole) (attempt_of call) (doing_of tr c) (λ after. done_with (is_idle client.call) (is_opening call) (place_in s) (made_by (place_in s) s.shared.targets after.targets) (doing_of tr c)) o) step.made
+      (step_on s.script.fails (place_in s) s.shared h.servers (lands s c tr h known locked sole) c step.asked (doing_of tr c) (is_idle client.call) (length s.schedule) refl (sole.past c client step.here) call is has (now_opens c step.asked client.call)
+      (now_sent c step.asked client.call (doing_of tr c) (sole.sent c client step.here))
+      (now_says s.shared.meta s.shared.targets (lands s c tr h known locked sole) c step.asked client.call (sole.copies c client step.here))
+      (alone s c tr h known locked sole) (λ none. written s c tr h known locked sole client step.here (sym (now_attempts c step.asked client.call) ∙ none)))
+
+  -- no version falls
+  grows_by : (first : ℕ) (came : Outcome Running) → OnStep s.script.fails (place_in s) s.shared h.servers (lands s c tr h known locked sole) (attempt_of (call_now c step.client.call step.asked)) (doing_of tr c)
+      (λ after. done_with (is_idle step.client.call) (is_opening (call_now c step.client.call step.asked)) (place_in s) (made_by (place_in s) s.shared.targets after.targets) (doing_of tr c)) came → LeavesState s c step.client first came t → Grows s.shared.targets t.shared.targets
+  grows_by first (Going next after) on left = subst (λ (x : State). Grows s.shared.targets x.shared.targets) (sym left) on.3.1
+  grows_by first (Fixed next reply takes after) on left = subst (λ (x : State). Grows s.shared.targets x.shared.targets) (sym left) on.3.1
+  grows_by first (Ended after) on left = subst (λ (x : State). Grows s.shared.targets x.shared.targets) (sym left) on.1
+  grows_by first (Answered reply takes after) on left = subst (λ (x : State). Grows s.shared.targets x.shared.targets) (sym left) on.1
+  grows_by first (Blocked holder) on left = absurd left
+
+  pub step_grows : Grows s.shared.targets t.shared.targets
+  step_grows = grows_by (first_now step.client.call (place_in s) step.client.first) step.came on_came step.left
+
 pub step_sole : (s t : State) (c : ℕ) (tr : Trace) → Holds s → HasRoom s.shared → Known s → Locked s → IsBeside s tr → Sole s tr → StepIs s c t → Sole t (traced s t tr c)
 step_sole s t c tr h room known locked beside sole step =
-    let client : Client = step.client in
-    let of = h.clients c client step.here in
-    let le = h.script.form.few_mirrors in
-    let few = h.script.form.few_clients in
-    let good : IsCommand s.script.most s.script.targets (length s.script.clients) step.asked = is_command s.script c client.done step.asked h.script step.commanded in
-    let call : Running = call_now c client.call step.asked in
-    let is : IsCallOf c call = is_now c s.shared step.asked s.script.most s.script.targets (length s.script.clients) le few good client.call of.call in
-    let has : Has c s.shared.meta s.shared.locks (hand_of call) = has_now c s.shared step.asked s.script.most s.script.targets (length s.script.clients) le few good client.call of.has in
-    let on = step_on s.script.fails (place_in s) s.shared h.servers (lands s c tr h known locked sole) c step.asked (doing_of tr c) (is_idle client.call) (length s.schedule) refl (sole.past c client step.here) call is has (now_opens c step.asked client.call)
-    (now_sent c step.asked client.call (doing_of tr c) (sole.sent c client step.here))
-    (now_says s.shared.meta s.shared.targets (lands s c tr h known locked sole) c step.asked client.call (sole.copies c client step.here))
-    (alone s c tr h known locked sole) (λ none. written s c tr h known locked sole client step.here (sym (now_attempts c step.asked client.call) ∙ none)) in
     subst (Sole t) (sym (steps_are_traced s t tr c step))
-    (left_sole s c tr h known locked beside sole client step.here step.asked (first_now client.call (place_in s) client.first) step.came t
-    (subst (λ (o : Outcome Running). OnStep s.script.fails (place_in s) s.shared h.servers (lands s c tr h known locked sole) (attempt_of call) (doing_of tr c) (then s c tr h known locked beside sole client step.here step.asked) o) step.made on)
-    (came_fine s t c h room step) step.left)
+    (left_sole s c tr h known locked beside sole step.client step.here step.asked (first_now step.client.call (place_in s) step.client.first) step.came t (on_came s t c tr h known locked sole step) (came_fine s t c h room step) step.left)

@@ -15,6 +15,7 @@ pub mod ReplayAgains
 pub mod ReplayCauses
 pub mod ReplayLaws
 pub mod ScheduleLaws
+pub mod WordCounts
 pub mod ScriptCauses
 pub mod SlotFaults
 pub mod SlotLaws

@@ -85,50 +85,13 @@ pub runs_end : (words rest : Words) (before : List ClientRun) (place : ℕ) → 
 runs_end words rest before place h e =
     h.whole ∙ ap (λ (ws : Words). with_runs before (runs_in place ws)) e ∙ ap (λ (xs : List ClientRun). Ok xs) (append-nil before)
 
--- the same of the count alone
-abbrev pub CountedSoFar : Words → Words → ℕ → ℕ → Type 0
-CountedSoFar words rest count place = (before : List ClientRun) × (length before ≡ count) × RunsSoFar words rest before place
-
-pub counted_start : (words : Words) → CountedSoFar words words 0 2
-counted_start words = ([], refl, runs_start words)
-
-pub counted_more : (words rest behind : Words) (count place : ℕ) (word : List ℕ) (run : ClientRun) → CountedSoFar words rest count place → rest ≡ word ∷ behind → run_of word ≡ Some run → CountedSoFar words behind (count + 1) (place + 1)
-counted_more words rest behind count place word run h first e =
-    let more = length-append h.0 (run ∷ []) in
-    let is = h.1 in
-    (h.0 ++ run ∷ [], omega (arith, more, is), runs_more words rest behind h.0 place word run h.2 first e)
-
-pub counted_fault : (words rest behind : Words) (count place : ℕ) (word : List ℕ) → CountedSoFar words rest count place → rest ≡ word ∷ behind → run_of word ≡ None → runs_in 2 words ≡ Err (faults.Bad (causes.BadNumber place))
-counted_fault words rest behind count place word h first e = runs_fault words rest behind h.0 place word h.2 first e
-
-pub counted_end : (words rest : Words) (count place : ℕ) → CountedSoFar words rest count place → rest ≡ [] → (runs : List ClientRun) × (runs_in 2 words ≡ Ok runs) × (count ≡ length runs)
-counted_end words rest count place h e = (h.0, runs_end words rest h.0 place h.2 e, sym h.1)
-
-pub counted_few : (words rest behind : Words) (count place : ℕ) (word : List ℕ) → CountedSoFar words rest count place → rest ≡ word ∷ behind → length words < 2 ^ 32 - 3 → (count + 1 < 2 ^ 32) × (place + 1 < 2 ^ 32)
-counted_few words rest behind count place word h first small =
-    let is = h.1 in
-    let few = h.2.few in
-    let at = h.2.place_is in
+-- a place fits, since there are few words
+pub runs_few : (words rest behind : Words) (before : List ClientRun) (place : ℕ) (word : List ℕ) → RunsSoFar words rest before place → rest ≡ word ∷ behind → length words < 2 ^ 32 - 3 → place + 1 < 2 ^ 32
+runs_few words rest behind before place word h first small =
+    let few = h.few in
+    let at = h.place_is in
     let one : length rest ≡ suc (length behind) = ap (λ (ws : Words). length ws) first in
-    (omega (arith, one, is, few), omega (arith, one, is, few, at))
-
--- the runs that were pushed
-abbrev pub MadeSoFar : Words → Words → List ClientRun → Type 0
-MadeSoFar words rest before = (place : ℕ) × RunsSoFar words rest before place
-
-pub made_start : (words : Words) → MadeSoFar words words []
-made_start words = (2, runs_start words)
-
-pub made_more : (words rest behind : Words) (before : List ClientRun) (word : List ℕ) (run : ClientRun) → MadeSoFar words rest before → rest ≡ word ∷ behind → run_of word ≡ Some run → MadeSoFar words behind (before ++ run ∷ [])
-made_more words rest behind before word run h first e = (h.0 + 1, runs_more words rest behind before h.0 word run h.1 first e)
-
-pub made_all : (words rest behind : Words) (before runs : List ClientRun) (word : List ℕ) → MadeSoFar words rest before → rest ≡ word ∷ behind → run_of word ≡ None → runs_in 2 words ≡ Ok runs → ⊥
-made_all words rest behind before runs word h first e all =
-    let fault = runs_fault words rest behind before h.0 word h.1 first e in
-    let clash : Err (faults.Bad (causes.BadNumber h.0)) ≡ Ok runs = sym fault ∙ all in absurd cc
-
-pub made_end : (words rest : Words) (before : List ClientRun) → MadeSoFar words rest before → rest ≡ [] → runs_in 2 words ≡ Ok before
-made_end words rest before h e = runs_end words rest before h.0 h.1 e
+    omega (arith, one, few, at)
 
 -- ---- where the schedule begins
 

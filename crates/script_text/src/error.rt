@@ -9,7 +9,7 @@ ghost use Rattle.script_text.specs.declared.error.ScriptError.TheVariants as err
 use flr_base::NoMemory;
 use lfs_values::Cause;
 use script_values::What;
-use std::alloc::AllocFailed;
+use std::alloc::{AllocError, AllocFailed};
 
 /// Why an input is no script, or no script with a schedule.
 #[derive(Clone, Copy, Debug, PartialEq, Eq)]
@@ -37,6 +37,14 @@ impl From<NoMemory> for LineError {
     ghost from_gives = { λ _ e. e ≡ faults.Bad causes.Memory };
 
     fn from(_refused: NoMemory) -> LineError {
+        LineError::Bad(Cause::Memory)
+    }
+}
+
+impl From<AllocError> for LineError {
+    ghost from_gives = { λ _ e. e ≡ faults.Bad causes.Memory };
+
+    fn from(_refused: AllocError) -> LineError {
         LineError::Bad(Cause::Memory)
     }
 }

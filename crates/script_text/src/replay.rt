@@ -13,8 +13,7 @@ ghost use Rattle.script_text.specs.declared.error.ScriptError.TheVariants as err
 use crate::error::{ScriptError, error_at};
 use crate::lines::next_line;
 use crate::read::{MOST_OF_SCRIPT, part_of, whole_of};
-use crate::runs::runs_in;
-use crate::schedule::{all_skipped, at_schedule, behind_first, count_schedule};
+use crate::schedule::{all_skipped, at_schedule, schedule_line};
 use crate::step::knows_mirrors;
 use script_values::{Runs, Script};
 use std::alloc::Global;
@@ -47,13 +46,12 @@ fn scheduled(alloc: Global, before: &[u8], rest: &[u8]) -> Result<(Script, Runs)
     };
     let part = part_of(alloc, before)?;
     let at = count_lines(before);
-    let count = match count_schedule(line, ended) {
-        Ok(count) => count,
+    let runs = match schedule_line(alloc, line, ended) {
+        Ok(runs) => runs,
         Err(error) => return Err(error_at(at, error)),
     };
     all_skipped(knows_mirrors(part.head.version), at + 1, behind)?;
     let script = whole_of(before, part)?;
-    let runs = runs_in(alloc, behind_first(line), count)?;
     Ok((script, runs))
 }
 

@@ -1,12 +1,11 @@
 //! The runs of a schedule line.
 
-ghost use Rattle.std.specs.Prelude.{◌≡◌, ◌<◌, ◌≤◌, ◌+◌, ◌^◌, ◌-◌, ℕ, List, length, IfOk, Ok, Err, MatchResult};
+ghost use Rattle.std.specs.Prelude.{◌≡◌, ◌<◌, ◌^◌, ◌-◌, length};
 ghost use Rattle.text_words.specs.Pieces.{words_of};
+ghost use Rattle.script_text.specs.Answers.{Gives};
 ghost use Rattle.script_text.specs.Schedules.{client_run, run_of, runs_in};
-ghost use Rattle.script_values.specs.declared.runs.ClientRun.{ClientRun};
 
 use crate::error::LineError;
-use flr_base::NoMemory;
 use lfs_values::Cause;
 use script_values::{ClientRun, Runs};
 use std::alloc::Global;
@@ -38,38 +37,42 @@ fn run_of(word: &[u8]) -> Option<ClientRun>
     }
 }
 
-/// How many runs the words are, of which the first has place 2 in its line.
-pub(crate) fn count_runs(words: &[u8]) -> Result<usize, LineError>
-    requires { length (words_of words.now) < 2 ^ 32 - 3 }
-    ensures { MatchResult result (λ count. (runs : List ClientRun) × (runs_in 2 (words_of words.now) ≡ Ok runs) × (count ≡ length runs)) (λ error. runs_in 2 (words_of words.now) ≡ Err error) }
+/// How many words the line has.
+#[tactic(auto, using(crate::proofs::WordCounts::counting))]
+fn count_words(line: &[u8]) -> usize
+    ensures { result ≡ length (words_of line.now) }
 {
     let mut count = 0;
+    let mut is_in_word = false;
+    for byte in line {
+        if *byte == b' ' {
+            is_in_word = false;
+        } else {
+            if !is_in_word {
+                count += 1;
+            }
+            is_in_word = true;
+        }
+    }
+    count
+}
+
+/// The runs that the words are, of which the first has place 2 in its line. They are counted first, so
+/// that their room is taken once.
+pub(crate) fn runs_in(alloc: Global, words: &[u8]) -> Result<Runs, LineError>
+    requires { length (words_of words.now) < 2 ^ 32 - 3 }
+    ensures { Gives result (runs_in 2 (words_of words.now)) }
+{
+    let mut runs = Vec::with_capacity(alloc, count_words(words))?;
     let mut place = 2;
     let mut rest = words;
     while let Some((word, behind)) = next_word(rest) {
-        let Some(_) = run_of(word) else {
-            return Err(LineError::Bad(Cause::BadNumber { place }));
-        };
-        rest = behind;
-        count += 1;
-        place += 1;
-    }
-    Ok(count)
-}
-
-/// The runs that the words are, of which there are so many. Their room is taken once.
-pub(crate) fn runs_in(alloc: Global, words: &[u8], count: usize) -> Result<Runs, NoMemory>
-    requires { (runs : List ClientRun) × (runs_in 2 (words_of words.now) ≡ Ok runs) × (count ≡ length runs) }
-    ensures { IfOk result (λ runs. runs_in 2 (words_of words.now) ≡ Ok runs) }
-{
-    let mut runs = Vec::with_capacity(alloc, count)?;
-    let mut rest = words;
-    while let Some((word, behind)) = next_word(rest) {
         let Some(run) = run_of(word) else {
-            unreachable!();
+            return Err(LineError::Bad(Cause::BadNumber { place }));
         };
         runs.push(run)?;
         rest = behind;
+        place += 1;
     }
     Ok(Runs::from_vec(runs))
 }

@@ -1,17 +1,18 @@
 //! Where a schedule begins, and what may stand behind it.
 
-ghost use Rattle.std.specs.Prelude.{◌≡◌, ◌<◌, ◌≤◌, ◌+◌, ◌^◌, ◌-◌, ℕ, List, length, Ok, Err, MatchResult};
+ghost use Rattle.std.specs.Prelude.{◌≡◌, ◌<◌, ◌≤◌, ◌+◌, ◌^◌, ◌-◌, length};
 ghost use Rattle.text_words.specs.Pieces.{words_of};
-ghost use Rattle.script_text.specs.Answers.{Answers};
+ghost use Rattle.script_text.specs.Answers.{Answers, Gives};
 ghost use Rattle.script_text.specs.Replays.{all_skipped};
 ghost use Rattle.script_text.specs.Schedules.{is_schedule_by, IsCutThere, schedule_line, skipped_words, skipped_line, behind_first};
 ghost use Rattle.script_text.specs.TextLines.{Line, lines_in};
-ghost use Rattle.script_values.specs.declared.runs.ClientRun.{ClientRun};
 
 use crate::error::{LineError, ScriptError, error_at};
 use crate::lead::{is_comment, lead_of, unplaced};
 use crate::lines::{as_text, next_line};
-use crate::runs::count_runs;
+use crate::runs::runs_in;
+use script_values::Runs;
+use std::alloc::Global;
 use text_words::next_word;
 
 /// Whether the first word is `schedule`.
@@ -48,13 +49,13 @@ pub(crate) fn behind_first(line: &[u8]) -> &[u8]
     }
 }
 
-/// How many runs the schedule line has.
-pub(crate) fn count_schedule(line: &[u8], ended: bool) -> Result<usize, LineError>
+/// The runs of the schedule line.
+pub(crate) fn schedule_line(alloc: Global, line: &[u8], ended: bool) -> Result<Runs, LineError>
     requires { length line.now ≤ 67108864 }
-    ensures { MatchResult result (λ count. (runs : List ClientRun) × (schedule_line (record { text = line.now; ended = ended }) ≡ Ok runs) × (count ≡ length runs)) (λ error. schedule_line (record { text = line.now; ended = ended }) ≡ Err error) }
+    ensures { Gives result (schedule_line (record { text = line.now; ended = ended })) }
 {
     as_text(line, ended)?;
-    count_runs(behind_first(line))
+    runs_in(alloc, behind_first(line))
 }
 
 fn skipped_words(knows_mirrors: bool, line: &[u8]) -> Result<(), LineError>

@@ -1,0 +1,9 @@
+pub mod Layouts
+pub mod Coming
+pub mod Steps
+pub mod Commands
+pub mod Beginning
+pub mod CopySteps
+pub mod Keeping
+pub mod Runs
+pub mod Old
