@@ -3,6 +3,7 @@ use Rattle.std.proofs.Common.{length}
 use Rattle.flr_steps.specs.States.{IsRun, State}
 use Rattle.flr_steps.proofs.Fronts.{fronts_are_runs}
 use Rattle.flr_steps.proofs.Inversion.{step_is}
+use Rattle.flr_honest.proofs.Runs.{runs_hold_plain}
 use Rattle.flr_layouts.proofs.Steps.{steps_explained}
 use Rattle.flr_live.proofs.Ending.{never_stuck}
 use Rattle.flr_past.proofs.Runs.{runs_are_in_order}
@@ -19,6 +20,7 @@ runs_are_sound s run = record {
   files = (all_hold s run).servers.sound;
   changes = changes s run;
   sole = runs_hold_alone s run (runs_leave (length s.schedule));
+  honest = λ none. runs_hold_plain s run none;
   live = λ c has. never_stuck s c run has;
   short = runs_short s run;
 }

@@ -147,9 +147,11 @@ impl World {
     /// Whatever was answered, the calls so far stand in order, each with a moment of its own between its first
     /// and its last step; each layout is valid, with a wholly fresh mirror; each change of a layout that a step
     /// of the run made is one of those that a metadata server makes. Each part of a write or a truncate that may
-    /// still land, or has landed before its call's moment, lies in the only fresh components there. While some
-    /// client has a command left, some client can make its next step; and there are no more steps than the
-    /// script's work.
+    /// still land, or has landed before its call's moment, lies in the only fresh components there. Where no
+    /// command of the script lets a byte rot, the files are the plain files that the calls so far leave, and every
+    /// fresh component holds their bytes, but where a write or a truncate has landed that is before its moment.
+    /// While some client has a command left, some client can make its next step; and there are no more steps than
+    /// the script's work.
     pub fn step(&mut self, client: u8) -> StepAnswer
         ensures step { StepGives self.old client result self.new }
         ensures run { IsRun self.new }

@@ -1,0 +1,10 @@
+pub mod Contents
+pub mod Held
+pub mod Landing
+pub mod StoreEffects
+pub mod Beginning
+pub mod Once
+pub mod Clients
+pub mod Parts
+pub mod Alone
+pub mod ShutOut

@@ -1,0 +1,12 @@
+pub mod Sentences
+pub mod Calls
+pub mod Writing
+pub mod Origins
+pub mod Files
+pub mod Sent
+pub mod Readied
+pub mod Victims
+pub mod Pieces
+pub mod Fitting
+pub mod Runs
+pub mod Laws

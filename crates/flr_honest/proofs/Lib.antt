@@ -1,0 +1,14 @@
+pub mod Sent
+pub mod Origins
+pub mod Landed
+pub mod Stores
+pub mod Closing
+pub mod Held
+pub mod Knowing
+pub mod Copied
+pub mod Lasting
+pub mod Files
+pub mod Commands
+pub mod Grounds
+pub mod Steps
+pub mod Runs

@@ -1,0 +1,9 @@
+pub mod Sent
+pub mod Landed
+pub mod Stores
+pub mod Closing
+pub mod Held
+pub mod Knowing
+pub mod Copied
+pub mod Lasting
+pub mod Laws

@@ -1,0 +1,13 @@
+//! What the files hold in every run without rot: the bytes of the plain files.
+#![tactic(auto)]
+
+mod laws;
+
+pub use laws::{
+    bytes_follow_answers, calls_have_their_pieces, calls_send_their_parts, copies_are_fit,
+    copies_have_victims, copies_know_what_they_put, copies_stay_true, each_step_writes_so,
+    files_hold_the_plain_files, fresh_components_come_from_somewhere,
+    fresh_components_hold_the_bytes, names_and_sizes_agree, new_files_have, parts_land_once,
+    reads_know_what_they_got, stores_follow_answers, truncates_are_readied,
+    verifies_find_copies_alike, what_landed_stays,
+};
