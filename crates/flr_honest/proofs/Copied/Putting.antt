@@ -36,7 +36,8 @@ use Rattle.flr_bytes.proofs.Held.{held_beside, held_elsewhere, held_over}
 use Rattle.flr_bytes.specs.Fitting.{AreFit}
 use Rattle.flr_honest.proofs.Copied.Chunks.{IsIn, object_there, place_in_chunk}
 use Rattle.flr_honest.proofs.Copied.Destinations.{extent_is, id_is, id_there, with_there}
-use Rattle.flr_honest.proofs.Copied.Once.{one_in_file, one_index}
+use Rattle.flr_bytes.proofs.Once.{one_index}
+use Rattle.flr_honest.proofs.Copied.Once.{one_in_file}
 
 pub listed_at : {X : Type 0} (xs : List X) (i : ℕ) (x : X) → slice_get xs i ≡ Some x → In x xs
 listed_at [] i x e = absurd (cc)
