@@ -4,8 +4,8 @@ use Rattle.std.specs.Str.{bytes_eq}
 use Rattle.std.proofs.Math.ListN.{set}
 use Rattle.std.proofs.lemmas.Bool.{cases_Bool}
 use Rattle.std.proofs.lemmas.Slice.Eq.{bytes_eq-Decides}
-use Rattle.flr_claims.specs.Effects.{with_bytes, with_bytes_at, with_file, without_file, without_file_at}
-use Rattle.flr_claims.specs.Files.{Plain, bytes_at, bytes_of, plain_at, plain_from, plain_of}
+use Rattle.plain_files.specs.Effects.{with_bytes, with_bytes_at, with_file, without_file, without_file_at}
+use Rattle.plain_files.specs.Files.{Plain, bytes_at, bytes_of, plain_at, plain_from, plain_of}
 
 -- the bytes of the first file of a name
 abbrev pub first_bytes : List ℕ → List Plain → List ℕ

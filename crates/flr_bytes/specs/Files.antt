@@ -6,7 +6,7 @@ use Rattle.meta_server.specs.Files.{File, file_of}
 use Rattle.script_values.specs.declared.command.Command.{Command}
 use Rattle.flr_steps.specs.States.{State}
 use Rattle.flr_steps.specs.Traces.{Trace, doing_of}
-use Rattle.flr_claims.specs.Files.{Plain}
+use Rattle.plain_files.specs.Files.{Plain}
 use Rattle.flr_claims.specs.Honesty.{IsAttempting, IsOf, IsOpen, content}
 use Rattle.flr_claims.specs.Sending.{Attempt, HasLanded, Part, is_over}
 use Rattle.flr_bytes.specs.Origins.{is_making, split_name}

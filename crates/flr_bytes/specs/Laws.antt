@@ -11,8 +11,8 @@ use Rattle.flr_steps.specs.Runs.{IsBeside, doing_after}
 use Rattle.flr_steps.specs.States.{IsRun, State, start}
 use Rattle.flr_steps.specs.Steps.{StepIs}
 use Rattle.flr_steps.specs.Traces.{Trace, doing_of, new_trace, trace_after, traced}
-use Rattle.flr_claims.specs.Effects.{effect}
-use Rattle.flr_claims.specs.Files.{Sent}
+use Rattle.plain_files.specs.Effects.{effect}
+use Rattle.plain_files.specs.Files.{Sent}
 use Rattle.flr_claims.specs.Honesty.{IsAttempting}
 use Rattle.flr_claims.specs.Runs.{store_of}
 use Rattle.flr_claims.specs.Sending.{Attempt, HasLanded, Part, sent_by}

@@ -9,7 +9,7 @@ use Rattle.flr_steps.specs.declared.client.Running.{Running}
 use Rattle.flr_steps.specs.declared.client.Running.TheVariants as running
 use Rattle.flr_steps.specs.States.{State, client_at}
 use Rattle.flr_steps.specs.Traces.{Trace, doing_of}
-use Rattle.flr_claims.specs.Files.{Plain, bytes_of}
+use Rattle.plain_files.specs.Files.{Plain, bytes_of}
 use Rattle.flr_claims.specs.Honesty.{content}
 use Rattle.flr_claims.specs.Runs.{store_of}
 use Rattle.flr_claims.specs.Sending.{Attempt, HasLanded, OfTruncate, OfWrite, Part, attempt_of, is_over, part_object}

@@ -1,5 +1,3 @@
-mod FileLaws
-mod HistoryLaws
 mod ByteLaws
 mod NameLaws
 mod CopyLaws
@@ -7,3 +5,5 @@ mod MetaWaits
 mod CallWaits
 pub mod BlockingLaws
 mod RefusalLaws
+mod ReplyLaws
+pub mod SplitLaws

@@ -11,9 +11,9 @@ use Rattle.lfs_words.specs.declared.command.LfsCommand.{LfsCommand}
 use Rattle.lfs_words.specs.declared.command.LfsCommand.TheVariants as lfs
 use Rattle.script_values.specs.declared.command.Command.{Command}
 use Rattle.script_values.specs.declared.command.Command.TheVariants as command
-use Rattle.flr_claims.specs.Effects.{effect, lfs_effect, truncated, with_bytes, with_bytes_at, with_file, without_file, without_file_at, wrote}
-use Rattle.flr_claims.specs.Files.{Plain, Ranges, Sent, Tails, bytes_of, fit, land, plain_at, plain_from, plain_of, wipe}
-use Rattle.flr_claims.specs.Histories.{Answered, store_after, store_by}
+use Rattle.plain_files.specs.Effects.{effect, lfs_effect, truncated, with_bytes, with_bytes_at, with_file, without_file, without_file_at, wrote}
+use Rattle.plain_files.specs.Files.{Plain, Ranges, Sent, Tails, bytes_of, fit, land, plain_at, plain_from, plain_of, wipe}
+use Rattle.plain_files.specs.Histories.{Answered, store_after, store_by}
 use Rattle.flr_claims.specs.Meanings.{NamesAreLeft, lfs_names, names_by, names_left, names_of, without_name}
 
 abbrev name : Plain → List ℕ

@@ -54,7 +54,7 @@ use Rattle.flr_steps.specs.declared.client.Running.{Running}
 use Rattle.flr_steps.specs.declared.client.Running.TheVariants as running
 use Rattle.flr_steps.specs.Clients.{call_now}
 use Rattle.flr_steps.specs.Commands.{answered_by, step_of}
-use Rattle.flr_claims.specs.Effects.{most_bytes}
+use Rattle.plain_files.specs.Effects.{most_bytes}
 use Rattle.flr_claims.specs.Refusals.{IsSuccess, RefusedExactly, RefusesBy, RefusesNone, busy, change_refusal, delete_refusal, extend_refusal, flags_refused, make_refusal, merge_refusal, plain_refusal, read_refusal, refused_if, refusal_for, resync_refusal, split_refusal, split_to_refusal, victim_refusal}
 
 -- ---- the metadata server

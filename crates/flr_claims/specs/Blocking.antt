@@ -59,7 +59,7 @@ use Rattle.flr_steps.specs.declared.client.Running.{Running}
 use Rattle.flr_steps.specs.declared.client.Running.TheVariants as running
 use Rattle.flr_steps.specs.Clients.{call_now}
 use Rattle.flr_steps.specs.States.{Blocked, IsRun, State, client_at, next}
-use Rattle.flr_claims.specs.Effects.{default_name, most_bytes}
+use Rattle.plain_files.specs.Effects.{default_name, most_bytes}
 
 -- what a step needs of all other clients: that none shares the layout locks of these files; that no extent lock is in the way of these; that none writes to these objects; or nothing
 pub data Need : Type 0 where

@@ -1,54 +1,112 @@
--- What is claimed of every run, put together.
-use Rattle.std.specs.Prelude.{◌≡◌, ℕ, false, None}
+-- What is claimed of every run of every script: the one record, and the sentences that come into it with their proofs.
+use Rattle.std.specs.Prelude.{◌≡◌, ℕ, ◌-◌, ◌≤◌, false, length, map, None, Some}
 use Rattle.std.specs.List.{AllByRecursion}
+use Rattle.flr_base.specs.declared.reply.Entry.{Entry}
 use Rattle.flr_base.specs.declared.reply.Reply.{Reply}
 use Rattle.flr_base.specs.declared.reply.Reply.TheVariants as reply
-use Rattle.flr_steps.specs.States.{IsRun, State, unfinished_of}
-use Rattle.flr_steps.specs.Traces.{Past, Trace, trace_after}
-use Rattle.flr_claims.specs.Causes.{IsCaused, has_rot}
+use Rattle.meta_laws.specs.Layouts.{AreExplained}
+use Rattle.meta_server.specs.Sound.{IsSound}
+use Rattle.script_values.specs.Scripts.{work_of}
+use Rattle.flr_steps.specs.Runs.{HasCommand}
+use Rattle.flr_steps.specs.States.{IsRun, State, Stepped, next, state_at, unfinished_of}
+use Rattle.flr_steps.specs.Traces.{Trace, trace_after}
+use Rattle.flr_claims.specs.Calls.{Call}
+use Rattle.flr_claims.specs.Causes.{IsCaused, IsOnlyAnswer, has_rot}
 use Rattle.flr_claims.specs.Completeness.{AreAnsweredWell}
-use Rattle.flr_claims.specs.Histories.{Answered, ArePointsAfter, FollowInOrder, IsLinear, IsWhole, IsWithinInterval, entries_of}
+use Rattle.plain_files.specs.Histories.{Answered, ArePointsAfter, FollowInOrder, IsLinear, IsWhole, IsWithinInterval, entries_of}
 use Rattle.flr_claims.specs.Honesty.{HasSoleHolder, IsHonest}
-use Rattle.flr_claims.specs.Runs.{EachCallIs, calls_of}
-use Rattle.flr_claims.specs.Takes.{IsRightly}
+use Rattle.flr_claims.specs.Refusals.{refusal_for}
+use Rattle.flr_claims.specs.Runs.{EachCallIs, EachStepIs, calls_of}
+use Rattle.flr_claims.specs.Steps.{ChangesFiles, LosesOnlySo, ObjectsStandOnce, StaleGoesOnlySo, TakesOnlyItsOwn}
 
--- the call is answered for a cause that is so, among the calls of this state
-abbrev pub IsCausedIn : State → Trace → State → Answered → Past → Type 0
-IsCausedIn s t before a p = IsCaused before a p (calls_of s t) a.entry.reply
+-- ---- sentences that are proved of every run
 
--- what is claimed of a run without rot, at each of its states: its calls so far could have been made one at a time on plain files, each at its point; every byte that was read came from a fresh component; each answer has its cause, and copies cleared just what they copied whole; where nothing went wrong all is answered well; fresh components hold the plain files' bytes; and who may still write, writes to the only fresh components there
-pub record IsRight (s : State) (t : Trace) : Type 0 where
-  pub linear : IsLinear s.script s.schedule (calls_of s t)
-  pub takes : EachCallIs IsRightly s t
-  pub causes : EachCallIs (IsCausedIn s t) s t
-  pub complete : AreAnsweredWell s.script (calls_of s t)
-  pub honest : IsHonest s t
-  pub alone : HasSoleHolder s t
-
--- what a verify answers that compared its file is so; of any other answer nothing is said here
-abbrev pub IsVerifiedBy : State → Trace → State → Answered → Past → Reply → Type 0
-IsVerifiedBy s t before a p (reply.Differ entries) = IsCausedIn s t before a p
-IsVerifiedBy s t before a p (reply.Same count) = IsCausedIn s t before a p
-IsVerifiedBy s t before a p other = Unit {0}
-
-abbrev pub IsVerifiedIn : State → Trace → State → Answered → Past → Type 0
-IsVerifiedIn s t before a p = IsVerifiedBy s t before a p a.entry.reply
-
--- what is claimed of a run in which bytes may rot: each call is within its interval, at a point of its own, and in its client's order; verifies tell what they compared; and who may still write, writes to the only fresh components there
-pub record IsOrderly (s : State) (t : Trace) : Type 0 where
+-- each entry is within its interval, the points ascend, and each client's entries have the numbers from 1 on and follow one another
+pub record AreInOrder (s : State) : Type 0 where
   pub within : AllByRecursion (IsWithinInterval s.schedule) s.entries
   pub points : ArePointsAfter 0 s.entries
   pub in_order : (client : ℕ) → FollowInOrder 1 0 (entries_of client s.entries)
-  pub verifies : EachCallIs (IsVerifiedIn s t) s t
-  pub alone : HasSoleHolder s t
 
--- every run of every script is so
-abbrev pub AreRight : Type 0
-AreRight = (s : State) → IsRun s → has_rot s.script ≡ false → IsRight s (trace_after s.script s.schedule)
+-- whatever step the run made, or could have made at a place of it, each layout that it left comes from what was there before
+abbrev pub ChangesAreExplained : State → Type 0
+ChangesAreExplained s = (place c : ℕ) (old new : State) → state_at s.script s.schedule place ≡ Some old → next old c ≡ Stepped new → AreExplained old.shared.meta new.shared.meta.files
 
-abbrev pub AreOrderly : Type 0
-AreOrderly = (s : State) → IsRun s → IsOrderly s (trace_after s.script s.schedule)
+-- the client can make its next step
+pub record CanStep (s : State) (c : ℕ) : Type 0 where
+  pub after : State
+  pub steps : next s c ≡ Stepped after
+
+-- while some client has a command left, some client can make its next step
+abbrev pub IsLive : State → Type 0
+IsLive s = (c : ℕ) → HasCommand s c → (d : ℕ) × CanStep s d
+
+-- the calls stand in order, each at a point of its own within its interval; the files are sound, so that each layout is valid with a wholly fresh mirror; each change of a layout is explained; each part of a write or a truncate that may still land, or has landed before its call's point, lies in the only fresh components there; where no command lets a byte rot, the files are the plain files that the calls so far leave, and fresh components hold their bytes; nobody is stuck; and the run isn't longer than its script's work
+pub record IsSoundRun (s : State) : Type 0 where
+  pub order : AreInOrder s
+  pub files : IsSound s.shared.meta
+  pub changes : ChangesAreExplained s
+  pub sole : HasSoleHolder s (trace_after s.script s.schedule)
+  pub honest : has_rot s.script ≡ false → IsHonest s (trace_after s.script s.schedule)
+  pub live : IsLive s
+  pub short : length s.schedule ≤ work_of s.script
 
 -- where nobody has a command left, each command has its answer
 abbrev pub AreWhole : Type 0
 AreWhole = (s : State) → IsRun s → unfinished_of s ≡ None → IsWhole s.script s.entries
+
+-- ---- sentences on the calls of a run that are to come into it
+
+-- no entry is lost: the calls that are judged are the entries
+abbrev pub CallsAreEntries : State → Trace → Type 0
+CallsAreEntries s t = map (λ (a : Answered). a.entry) (calls_of s t) ≡ s.entries
+
+-- the calls could have been made one at a time on plain files, each at its point
+abbrev pub CallsAreLinear : State → Trace → Type 0
+CallsAreLinear s t = IsLinear s.script s.schedule (calls_of s t)
+
+-- each answer has its cause: so every byte of a read came from a fresh component, and a copy cleared just what it copied whole
+abbrev pub AnswersHaveCauses : State → Trace → Type 0
+AnswersHaveCauses s t = EachCallIs (λ (k : Call) (e : Entry). IsCaused k e.reply) s t
+
+-- and no other answer has one: with the sentence before, each answer comes exactly where it is due
+abbrev pub AnswersAreAlone : State → Trace → Type 0
+AnswersAreAlone s t = EachCallIs (λ (k : Call) (e : Entry). IsOnlyAnswer k e.reply) s t
+
+-- where something refuses the command before its call's first step, that is its answer, at that step
+abbrev pub IsRefusedAtFirst : Call → Entry → Type 0
+IsRefusedAtFirst k e = (s : State) (answer : Reply) → state_at k.before.script k.before.schedule (k.first - 1) ≡ Some s → refusal_for k.asked s.shared ≡ Some answer
+    → (e.reply ≡ answer) × (e.at ≡ e.first) × (e.last ≡ e.first)
+
+abbrev pub RefusalsComeFirst : State → Trace → Type 0
+RefusalsComeFirst s t = EachCallIs IsRefusedAtFirst s t
+
+-- in a script in which nothing goes wrong each call is answered as well as may be
+abbrev pub CallsGoWell : State → Trace → Type 0
+CallsGoWell s t = AreAnsweredWell s.script (calls_of s t)
+
+abbrev pub IsVerifiedBy : Call → Reply → Type 0
+IsVerifiedBy k (reply.Differ entries) = IsCaused k (reply.Differ entries)
+IsVerifiedBy k (reply.Same count) = IsCaused k (reply.Same count)
+IsVerifiedBy k other = Unit {0}
+
+-- also where bytes rot, what a verify answers that compared its file is so
+abbrev pub VerifiesTellWhatTheyRead : State → Trace → Type 0
+VerifiesTellWhatTheyRead s t = EachCallIs (λ (k : Call) (e : Entry). IsVerifiedBy k e.reply) s t
+
+-- ---- sentences on its steps
+
+-- a step makes, changes and takes away just what its command is for
+abbrev pub CommandsChangeTheirFiles : State → Type 0
+CommandsChangeTheirFiles s = EachStepIs ChangesFiles s
+
+-- what was stale is fresh only by the end of a copy that cleared it
+abbrev pub StaleIsClearedByCopies : State → Type 0
+StaleIsClearedByCopies s = EachStepIs StaleGoesOnlySo s
+
+-- an eviction takes what its client holds and nothing else, and nobody loses a lock or a lease in another way
+abbrev pub EvictionsTakeTheirs : State → Type 0
+EvictionsTakeTheirs s = EachStepIs TakesOnlyItsOwn s × EachStepIs LosesOnlySo s
+
+-- no object stands twice
+abbrev pub ObjectsAreApart : State → Type 0
+ObjectsAreApart s = ObjectsStandOnce s

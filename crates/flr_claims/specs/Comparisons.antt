@@ -1,70 +1,15 @@
--- What is told of files and components that were compared byte by byte: by an extend that takes a file in, and by a verify.
-use Rattle.std.specs.Prelude.{◌≡◌, ◌⊎◌, ℕ, ◌+◌, ◌*◌, ◌<◌, ◌≤◌, ◌/◌, true, false, nat_lt, List, [], length, filter, Contains, Some, slice_get, slice_index}
-use Rattle.std.specs.List.{AllByRecursion, count_by, range_with_len}
+-- What a verify tells of the mirrors of a file, compared block by block.
+use Rattle.std.specs.Prelude.{◌≡◌, ◌⊎◌, ℕ, ◌*◌, ◌+◌, ◌<◌, ◌≤◌, ◌/◌, true, false, nat_lt, List, [], ◌∷◌, ◌++◌, length, filter, Contains, Some}
+use Rattle.std.specs.List.{AllByRecursion, count_by, list_any, range_with_len}
 use Rattle.flr_base.specs.declared.reply.Diff.{Diff}
 use Rattle.flr_base.specs.declared.reply.FailedCall.{FailedCall}
-use Rattle.flr_base.specs.declared.reply.ObjectId.{ObjectId}
 use Rattle.composite_layout.specs.declared.component.Component.{Component}
-use Rattle.stripe_map.specs.Places.{place_of}
-use Rattle.mirror_select.specs.Candidates.{has_byte, is_candidate}
-use Rattle.object_target.specs.declared.call.CallAnswer.TheVariants as answer
-use Rattle.object_target.specs.declared.call.CallKind.TheVariants as kind
-use Rattle.meta_server.specs.declared.answers.Opened.{Opened}
-use Rattle.meta_server.specs.Closing.{size_of}
-use Rattle.meta_server.specs.Files.{File}
-use Rattle.script_values.specs.declared.command.Command.{Command}
-use Rattle.flr_steps.specs.States.{State}
-use Rattle.flr_steps.specs.Traces.{Made}
-use Rattle.flr_claims.specs.Asked.{IsAbout}
-use Rattle.flr_claims.specs.Copies.{HasSettled, IsHole, is_fence}
-use Rattle.flr_claims.specs.Failures.{IsLastOf, failed_of, has_failed, is_of, is_unanswered}
-
--- one of these calls read the byte from the component, where striping places it, and the object held this
-pub record IsReadFrom (made : List Made) (c : Component) (x byte : ℕ) : Type 0 where
-  pub by : Made
-  pub listed : Contains made by
-  pub read : by.entry.kind ≡ kind.Read
-  pub ok : by.entry.answer ≡ answer.Ok
-  pub object : ObjectId
-  pub there : slice_get c.objects (place_of x c.stripe).index ≡ Some object
-  pub of : is_of object by ≡ true
-  pub low : by.entry.offset ≤ (place_of x c.stripe).offset
-  pub high : (place_of x c.stripe).offset < by.entry.offset + by.entry.length
-  pub byte_is : byte ≡ slice_index by.bytes (place_of x c.stripe).offset
-
--- ---- a file that is to be taken in
-
--- a file has this byte, as an extend learnt it: it was read from a fresh component; or it is zero, since who is to answer it has no objects
-pub data IsByteOf (cs : List Component) (made : List Made) (x byte : ℕ) : Type 0 where
-  ByRead : (c : Component) → Contains cs c → c.flags.stale ≡ false → has_byte x c ≡ true → IsReadFrom made c x byte → IsByteOf cs made x byte
-  ByHole : IsHole cs made x → byte ≡ 0 → IsByteOf cs made x byte
-
--- both files have the same byte
-abbrev pub AreSameAt : List Component → List Component → List Made → ℕ → Type 0
-AreSameAt ours theirs made x = (byte : ℕ) × IsByteOf ours made x byte × IsByteOf theirs made x byte
-
--- the files differ first at this byte, where they have these
-pub record IsFirstDifference (ours theirs : List Component) (made : List Made) (x our_byte their_byte : ℕ) : Type 0 where
-  pub differ : our_byte ≡ their_byte → ⊥
-  pub our_one : IsByteOf ours made x our_byte
-  pub their_one : IsByteOf theirs made x their_byte
-  pub first : (y : ℕ) → y < x → AreSameAt ours theirs made y
-
--- the files had these sizes where the extend settled, and they differ
-pub record AreOtherSizes (last : State) (client began : ℕ) (f v : File) (ours theirs : ℕ) : Type 0 where
-  pub place : ℕ
-  pub settled : State
-  pub settles : HasSettled last client began place settled
-  pub our_size : size_of f.number settled.shared.meta ≡ Some ours
-  pub their_size : size_of v.number settled.shared.meta ≡ Some theirs
-  pub differ : ours ≡ theirs → ⊥
-
--- an extend fails for this call, the last one of it that failed: a fence failed; or nobody is left to answer a byte of one of the files
-pub data IsCopyFault (last : State) (asked : Command) (made : List Made) (call : FailedCall) : Type 0 where
-  ByFence : (m : Made) → Contains made m → is_fence m.entry.kind ≡ true → has_failed m ≡ true → IsLastOf (failed_of made) call → IsCopyFault last asked made call
-  ByTakes : (f : File) (byte : ℕ) → IsAbout last asked f → byte < f.size → is_unanswered f.layout.components made byte ≡ true → IsLastOf (failed_of made) call → IsCopyFault last asked made call
-
--- ---- the mirrors of a file
+use Rattle.mirror_select.specs.Candidates.{is_candidate}
+use Rattle.meta_server.specs.Files.{File, file_of}
+use Rattle.flr_steps.specs.Traces.{Made, made_since_open}
+use Rattle.flr_claims.specs.Calls.{Call, HasOpened, shares_lock}
+use Rattle.flr_claims.specs.Failures.{IsListedFailure, has_failed}
+use Rattle.flr_claims.specs.Merging.{IsReadFrom}
 
 -- the block of 65536 bytes that has this byte
 abbrev pub block_of : ℕ → ℕ
@@ -88,10 +33,11 @@ pub record AreCompared (cs : List Component) (x : ℕ) (c d : Component) : Type 
   pub lowest : (e : Component) → Contains cs e → is_candidate [] x e ≡ true → c.id ≤ e.id
 
 -- a difference is right: two compared components have these bytes there, which differ, and none before it in its block does
-pub record IsDifference (cs : List Component) (made : List Made) (e : Diff) : Type 0 where
+pub record IsDifference (f : File) (made : List Made) (e : Diff) : Type 0 where
+  pub within : e.offset < f.size
   pub c : Component
   pub d : Component
-  pub compared : AreCompared cs e.offset c d
+  pub compared : AreCompared f.layout.components e.offset c d
   pub first_is : c.id ≡ e.first
   pub second_is : d.id ≡ e.second
   pub differ : e.ours ≡ e.theirs → ⊥
@@ -103,15 +49,49 @@ pub record IsDifference (cs : List Component) (made : List Made) (e : Diff) : Ty
 abbrev pub IsEntryFor : List Diff → Component → ℕ → Type 0
 IsEntryFor entries d x = (e : Diff) × Contains entries e × (e.second ≡ d.id) × (block_of e.offset ≡ block_of x)
 
--- these are the differences of a file as it was opened: each is right, and where two compared components have none in a block, they are alike there
-pub record AreDifferences (o : Opened) (made : List Made) (entries : List Diff) : Type 0 where
-  pub right : AllByRecursion (IsDifference o.layout.components made) entries
-  pub all : (x : ℕ) (c d : Component) → x < o.size → AreCompared o.layout.components x c d → IsEntryFor entries d x ⊎ AreAlikeAt made c d x
+-- of two entries the first is of an earlier block, or of the same one and a component with a lower id
+abbrev pub ComesBefore : Diff → Diff → Type 0
+ComesBefore e g = (block_of e.offset < block_of g.offset) ⊎ ((block_of e.offset ≡ block_of g.offset) × (e.second < g.second))
+
+-- the entries stand in that order, so no component is named twice for a block
+abbrev pub AreInOrder : List Diff → Type 0
+AreInOrder [] = Unit {0}
+AreInOrder (e ∷ es) = AllByRecursion (ComesBefore e) es × AreInOrder es
+
+-- these are the differences of a file as it was opened: each is right, they stand in order, and where two compared components have none in a block, they are alike there
+pub record AreDifferences (f : File) (made : List Made) (entries : List Diff) : Type 0 where
+  pub right : AllByRecursion (IsDifference f made) entries
+  pub in_order : AreInOrder entries
+  pub all : (x : ℕ) (c d : Component) → x < f.size → AreCompared f.layout.components x c d → IsEntryFor entries d x ⊎ AreAlikeAt made c d x
 
 -- how many components may answer the byte
 abbrev pub answering : List Component → ℕ → ℕ
 answering cs byte = length (filter (is_candidate [] byte) cs)
 
--- how many blocks of an opened file are compared: those that two components at least may answer
-abbrev pub compared_blocks : Opened → ℕ
-compared_blocks o = count_by (λ (block : ℕ). nat_lt 1 (answering o.layout.components (65536 * block))) (range_with_len 0 ((o.size + 65535) / 65536))
+-- how many blocks of a file are compared: those that two components at least may answer
+abbrev pub compared_blocks : File → ℕ
+compared_blocks f = count_by (λ (block : ℕ). nat_lt 1 (answering f.layout.components (65536 * block))) (range_with_len 0 ((f.size + 65535) / 65536))
+
+-- ---- what it answers
+
+-- a verify opened the file as it is here, and before the point its client still shares the layout lock: nobody has evicted it since
+pub record IsVerified (k : Call) (f : File) : Type 0 where
+  pub opened : HasOpened k f
+  pub now : File
+  pub there : file_of f.number k.before.shared.meta.files ≡ Some now
+  pub shares : shares_lock k.client now ≡ true
+
+-- no call of the verify failed since it opened the file, and these are the file's differences
+pub record HasDifferences (k : Call) (f : File) (entries : List Diff) : Type 0 where
+  pub verified : IsVerified k f
+  pub through : list_any has_failed (made_since_open k.did) ≡ false
+  pub are : AreDifferences f (made_since_open k.did) entries
+
+-- the last call of the verify since it opened its file failed
+pub record HasFailedRead (k : Call) (call : FailedCall) : Type 0 where
+  pub f : File
+  pub verified : IsVerified k f
+  pub front : List Made
+  pub last : Made
+  pub in_order : made_since_open k.did ≡ front ++ last ∷ []
+  pub failed : IsListedFailure k.before.script.fails last call

@@ -8,7 +8,7 @@ use Rattle.lfs_words.specs.declared.command.LfsCommand.TheVariants as lfs
 use Rattle.script_values.specs.declared.command.Command.{Command}
 use Rattle.script_values.specs.declared.command.Command.TheVariants as command
 use Rattle.script_values.specs.Scripts.{ScriptView}
-use Rattle.flr_claims.specs.Histories.{Answered}
+use Rattle.plain_files.specs.Histories.{Answered}
 
 -- ---- scripts in which nothing goes wrong
 

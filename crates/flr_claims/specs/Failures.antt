@@ -1,4 +1,4 @@
--- What went wrong on the way of a call: calls of targets that failed, bytes that nobody is left to answer, and evictions.
+-- What went wrong on the way of a call: calls of targets that failed, and bytes that nobody is left to answer.
 use Rattle.std.specs.Prelude.{◌≡◌, ℕ, ◌<◌, ◌≤◌, Bool, true, false, not, ◌&&◌, nat_eq, List, [], ◌∷◌, ◌++◌, map, filter, Contains}
 use Rattle.std.specs.List.{list_any}
 use Rattle.flr_base.specs.declared.reply.FailedCall.{FailedCall}
@@ -10,9 +10,7 @@ use Rattle.object_target.specs.declared.call.CallAnswer.TheVariants as answer
 use Rattle.object_target.specs.declared.call.CallKind.{CallKind}
 use Rattle.object_target.specs.declared.call.CallKind.TheVariants as kind
 use Rattle.object_target.specs.declared.fail.Fail.{Fail}
-use Rattle.script_values.specs.declared.command.Command.TheVariants as command
-use Rattle.flr_steps.specs.Traces.{Doing, Made, is_sending, made_since_open, sent_calls}
-use Rattle.flr_claims.specs.Histories.{Answered}
+use Rattle.flr_steps.specs.Traces.{Made}
 
 -- ---- calls that failed
 
@@ -42,6 +40,12 @@ IsLastOf calls call = (front : List FailedCall) × (calls ≡ front ++ call ∷ 
 -- the script lists this call of a target to fail
 abbrev pub IsListed : List Fail → FailedCall → Type 0
 IsListed fails call = (f : Fail) × Contains fails f × (f.target ≡ call.target) × (f.call ≡ call.call)
+
+-- the call failed, and the script lists it
+pub record IsListedFailure (fails : List Fail) (m : Made) (call : FailedCall) : Type 0 where
+  pub named : call_of m ≡ call
+  pub failed : has_failed m ≡ true
+  pub listed : IsListed fails call
 
 -- a counted failure: the call is one of these that failed, and the script lists it
 abbrev pub IsCountedFailure : List Fail → List Made → FailedCall → Type 0
@@ -77,25 +81,3 @@ is_unanswered cs made byte = not (list_any (may_answer made byte) cs)
 -- those of these calls that are failed reads of a component that has the byte, in their order
 abbrev pub failed_over : List Component → List Made → ℕ → List FailedCall
 failed_over cs made byte = map call_of (filter (λ (m : Made). list_any (λ (c : Component). has_byte byte c && is_failed_take c m) cs) made)
-
--- ---- evictions
-
--- this answered call is an eviction of the client at this place
-abbrev pub IsEviction : ℕ → ℕ → Answered → Type 0
-IsEviction client place a = (a.command ≡ command.Evict client) × (a.entry.at ≡ place)
-
--- a counted eviction, for a writing call that did this: a part of it was refused as too old after another one had been accepted; and this is the client's latest eviction before that
-pub record IsCountedEviction (calls : List Answered) (client : ℕ) (d : Doing) (place : ℕ) : Type 0 where
-  pub refused : Made
-  pub listed : Contains (made_since_open d) refused
-  pub sending : is_sending refused.entry.kind ≡ true
-  pub kept : ℕ
-  pub old : refused.entry.answer ≡ answer.Old kept
-  pub accepted : Made
-  pub sent : Contains (sent_calls d) accepted
-  pub earlier : accepted.place < refused.place
-  pub by : Answered
-  pub there : Contains calls by
-  pub evicts : IsEviction client place by
-  pub before : place < refused.place
-  pub latest : (other : Answered) (later : ℕ) → Contains calls other → IsEviction client later other → later < refused.place → later ≤ place

@@ -9,7 +9,7 @@ use Rattle.call_steps.specs.Servers.{Servers, target_at}
 use Rattle.flr_steps.specs.declared.client.Client.{Client}
 use Rattle.flr_steps.specs.States.{State, client_at}
 use Rattle.flr_steps.specs.Traces.{Trace, doing_of}
-use Rattle.flr_claims.specs.Files.{Plain}
+use Rattle.plain_files.specs.Files.{Plain}
 use Rattle.flr_claims.specs.Runs.{store_of}
 use Rattle.flr_claims.specs.Sending.{Attempt, HasLanded, IsAdmitted, Part, attempt_of, is_over, part_component, part_object, reaches}
 

@@ -5,19 +5,23 @@ use Rattle.flr_base.specs.declared.reply.ObjectId.{ObjectId}
 use Rattle.flr_base.specs.declared.reply.Reply.{Reply}
 use Rattle.flr_base.specs.declared.reply.Reply.TheVariants as reply
 use Rattle.composite_layout.specs.declared.component.Component.{Component}
+use Rattle.composite_layout.specs.Layouts.{Composite}
 use Rattle.mirror_select.specs.Held.{held}
 use Rattle.object_target.specs.declared.fail.Fail.{Fail}
 use Rattle.stripe_map.specs.Places.{place_of}
 use Rattle.lfs_words.specs.declared.command.LfsCommand.{LfsCommand}
 use Rattle.lfs_words.specs.declared.command.LfsCommand.TheVariants as lfs
+use Rattle.lfs_words.specs.declared.command.SplitTo.{SplitTo}
 use Rattle.script_values.specs.declared.command.Command.{Command}
 use Rattle.script_values.specs.declared.command.Command.TheVariants as command
-use Rattle.meta_server.specs.declared.answers.Side.{Side}
+use Rattle.meta_server.specs.Files.{File}
 use Rattle.flr_steps.specs.States.{State}
 use Rattle.flr_steps.specs.Traces.{Doing, Made, sent_calls}
+use Rattle.flr_claims.specs.Calls.{Call}
 use Rattle.flr_claims.specs.Copies.{IsChunkOf, IsCopiedWhole, IsHole, IsPut, IsTaken, chunk_end, chunk_start}
-use Rattle.flr_claims.specs.Files.{Plain}
-use Rattle.flr_claims.specs.Histories.{Answered, store_after}
+use Rattle.plain_files.specs.Effects.{lfs_effect}
+use Rattle.plain_files.specs.Files.{IsAbsent, Plain, bytes_of}
+use Rattle.plain_files.specs.Histories.{Answered, store_after}
 use Rattle.flr_claims.specs.Sending.{Attempt, HasLanded, Part}
 
 -- ---- names
@@ -52,6 +56,13 @@ names_of store = map (λ (f : Plain). f.name) store
 abbrev pub NamesAreLeft : Type 0
 NamesAreLeft = (calls : List Answered) → names_of (store_after [] calls) ≡ names_left [] calls
 
+-- ---- splits
+
+-- where a split makes a file of a name that no file had, that file has the bytes of the one that it is split from
+abbrev pub SplitFilesHaveTheBytes : Type 0
+SplitFilesHaveTheBytes =
+    (name new : List ℕ) (mirror : ℕ) (to : SplitTo) (store : List Plain) → IsAbsent store new → bytes_of (lfs_effect (lfs.Split name mirror to) (reply.Split new) store) new ≡ bytes_of store name
+
 -- ---- parts and bytes
 
 -- a part that landed is one of those that were sent
@@ -67,18 +78,18 @@ HeldByStriping =
 -- ---- copies
 
 -- among these calls one read all bytes of the chunk from a fresh component, and one put them into the destination
-pub record HasPut (last : State) (side : Side) (made : List Made) (d : Component) (size number : ℕ) : Type 0 where
+pub record HasPut (last : State) (l : Composite) (made : List Made) (d : Component) (size number : ℕ) : Type 0 where
   pub bytes : List ℕ
   pub all : length bytes ≡ chunk_end d size number - chunk_start number
   pub taken : Made
   pub taken_there : Contains made taken
-  pub took : IsTaken side.layout.components (chunk_start number) bytes taken
+  pub took : IsTaken l.components (chunk_start number) bytes taken
   pub put : Made
   pub put_there : Contains made put
-  pub wrote : IsPut last d side.layout.generation (chunk_start number) bytes put
+  pub wrote : IsPut last d l.generation (chunk_start number) bytes put
 
 -- a destination that was copied whole has each of its chunks below the size put, but for those that are holes
 abbrev pub WholeIsPut : Type 0
 WholeIsPut =
-    (last : State) (client began : ℕ) (side : Side) (made : List Made) (d : Component) (whole : IsCopiedWhole last client began side made d) (number : ℕ) → IsChunkOf d whole.size number →
-    HasPut last side made d whole.size number ⊎ IsHole side.layout.components made (chunk_start number)
+    (k : Call) (f : File) (d : Component) (whole : IsCopiedWhole k f d) (number : ℕ) → IsChunkOf d whole.size number →
+    HasPut k.before f.layout k.did.made d whole.size number ⊎ IsHole f.layout.components k.did.made (chunk_start number)

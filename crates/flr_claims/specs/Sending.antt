@@ -21,7 +21,7 @@ use Rattle.client_write.specs.declared.phase.WriteAt.TheVariants as write
 use Rattle.flr_steps.specs.declared.client.Running.{Running}
 use Rattle.flr_steps.specs.declared.client.Running.TheVariants as running
 use Rattle.flr_steps.specs.Traces.{Doing, Made, Past, has_landed, sent_calls}
-use Rattle.flr_claims.specs.Files.{Sent, SentRange, SentTail, Ranges, Tails, is_in}
+use Rattle.plain_files.specs.Files.{Sent, SentRange, SentTail, Ranges, Tails, is_in}
 
 -- ---- what was sent for an answered call
 

@@ -1,9 +1,9 @@
--- Right takes: who answered each byte of a read.
-use Rattle.std.specs.Prelude.{◌≡◌, ℕ, ◌+◌, ◌-◌, ◌<◌, ◌≤◌, false, List, [], ◌∷◌, take, Contains, Some, slice_get}
-use Rattle.std.specs.List.{flat_map}
+-- Right takes: who answered each byte of a read; and bytes that nobody is left to answer.
+use Rattle.std.specs.Prelude.{◌≡◌, ℕ, ◌+◌, ◌-◌, ◌<◌, ◌≤◌, Bool, true, false, List, [], ◌∷◌, length, take, Contains, Some, slice_get}
+use Rattle.std.specs.List.{AllByRecursion, flat_map}
 use Rattle.flr_base.specs.Bytes.{piece, zeros}
-use Rattle.flr_base.specs.declared.reply.Reply.{Reply}
-use Rattle.flr_base.specs.declared.reply.Reply.TheVariants as reply
+use Rattle.flr_base.specs.declared.reply.FailedCall.{FailedCall}
+use Rattle.flr_base.specs.declared.reply.Range.{Range}
 use Rattle.flr_base.specs.declared.reply.Take.{Take}
 use Rattle.flr_base.specs.declared.reply.TakeFrom.{TakeFrom}
 use Rattle.flr_base.specs.declared.reply.TakeFrom.TheVariants.{Hole, Object}
@@ -11,11 +11,11 @@ use Rattle.stripe_map.specs.Places.{place_of}
 use Rattle.composite_layout.specs.declared.component.Component.{Component}
 use Rattle.object_target.specs.declared.call.CallAnswer.TheVariants as answer
 use Rattle.object_target.specs.declared.call.CallKind.TheVariants as kind
-use Rattle.script_values.specs.declared.command.Command.TheVariants as command
-use Rattle.meta_server.specs.Files.{File, file_named}
-use Rattle.flr_steps.specs.States.{State}
-use Rattle.flr_steps.specs.Traces.{Made, Past, made_since_open}
-use Rattle.flr_claims.specs.Histories.{Answered}
+use Rattle.meta_server.specs.Files.{File}
+use Rattle.flr_steps.specs.Traces.{Made, made_since_open}
+use Rattle.flr_claims.specs.Asked.{range_of}
+use Rattle.flr_claims.specs.Calls.{Call, IsHeldOpen}
+use Rattle.flr_claims.specs.Failures.{IsListed, failed_over, is_unanswered}
 
 -- the component has each byte of the take at the object and offset that striping gives it, from this offset on
 abbrev pub IsStriped : Component → Take → ℕ → ℕ → ℕ → Type 0
@@ -58,19 +58,35 @@ AreRightTakes components made start end [] [] = start ≡ end
 AreRightTakes components made start end (t ∷ ts) (bytes ∷ rest) = (t.range.start ≡ start) × IsRightTake components made t bytes × AreRightTakes components made t.range.end end ts rest
 AreRightTakes components made start end ts pieces = ⊥
 
--- a read answered these bytes, at its point: they are those of its takes, joined and cut at the file's size; file and layout are those of the state before the point
-pub record HasRightTakes (before : State) (past : Past) (takes : List Take) (name : List ℕ) (offset len : ℕ) (bytes : List ℕ) : Type 0 where
-  pub file : File
-  pub named : file_named name before.shared.meta.files ≡ Some file
+-- a read's takes and bytes, by the file as it is before the point: the takes are right in its layout, and the bytes are theirs, joined and cut at the file's size
+pub record HasRightTakes (k : Call) (now : File) (offset len : ℕ) (bytes : List ℕ) : Type 0 where
   pub pieces : List (List ℕ)
-  pub right : AreRightTakes file.layout.components (made_since_open past.doing) offset (offset + len) takes pieces
-  pub joined : bytes ≡ take (file.size - offset) (flat_map (λ (p : List ℕ). p) pieces)
+  pub right : AreRightTakes now.layout.components (made_since_open k.did) offset (offset + len) k.takes pieces
+  pub joined : bytes ≡ take (now.size - offset) (flat_map (λ (p : List ℕ). p) pieces)
 
-abbrev pub IsTakenRightly : State → Past → Answered → Reply → Type 0
-IsTakenRightly before past a (reply.Bytes bytes) =
-    (name : List ℕ) × (offset : ℕ) × (len : ℕ) × (a.command ≡ command.Read name offset len) × HasRightTakes before past a.entry.takes name offset len bytes
-IsTakenRightly before past a other = a.entry.takes ≡ []
+-- each byte of the range may still be answered: some fresh component that isn't offline has it, of which no read failed since the open
+abbrev pub IsAnswerable : Call → File → Range → Type 0
+IsAnswerable k now range = (x : ℕ) → range.start ≤ x → x < range.end → is_unanswered now.layout.components (made_since_open k.did) x ≡ false
 
--- a read that answered bytes has right takes, and no other answer has takes
-abbrev pub IsRightly : State → Answered → Past → Type 0
-IsRightly before a past = IsTakenRightly before past a a.entry.reply
+-- a read answered these bytes: its file is open still, each asked byte may be answered, and they are the bytes of its right takes
+pub record HasRead (k : Call) (offset len : ℕ) (bytes : List ℕ) : Type 0 where
+  pub now : File
+  pub held : IsHeldOpen k now
+  pub answerable : IsAnswerable k now (record { start = offset; end = offset + len })
+  pub takes : HasRightTakes k now offset len bytes
+
+-- the byte is the lowest of the range that passes the test
+pub record IsLowest (range : Range) (test : ℕ → Bool) (byte : ℕ) : Type 0 where
+  pub low : range.start ≤ byte
+  pub high : byte < range.end
+  pub passes : test byte ≡ true
+  pub lowest : (x : ℕ) → range.start ≤ x → x < byte → test x ≡ false
+
+-- the byte is the lowest of the range that nobody is left to answer since the file was opened, which is open still; and these, one at least, are the reads of components that have it which failed since then, each listed by the script
+pub record HasNobodyLeft (k : Call) (byte : ℕ) (calls : List FailedCall) : Type 0 where
+  pub now : File
+  pub held : IsHeldOpen k now
+  pub lowest : IsLowest (range_of k.asked) (is_unanswered now.layout.components (made_since_open k.did)) byte
+  pub named : calls ≡ failed_over now.layout.components (made_since_open k.did) byte
+  pub some : 0 < length calls
+  pub listed : AllByRecursion (IsListed k.before.script.fails) calls

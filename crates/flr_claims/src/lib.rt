@@ -2,18 +2,18 @@
 //! laws of them; no code runs here.
 #![tactic(auto)]
 
+mod answers;
 mod blocking;
 mod bytes;
 mod copies;
-mod files;
-mod histories;
 mod names;
 mod refused;
+mod splits;
 
+pub use answers::{answers_are_of_commands, evictions_name_their_client, refusals_are_alone};
 pub use blocking::blocked_where_waiting;
 pub use bytes::{held_bytes_are_striped, landed_parts_were_sent};
 pub use copies::whole_is_put;
-pub use files::{fits_itself, lands_whole};
-pub use histories::ended_comes_before;
 pub use names::names_are_left;
 pub use refused::refused_exactly;
+pub use splits::split_files_have_the_bytes;

@@ -9,7 +9,7 @@ use Rattle.meta_server.specs.Files.{AreAscending, File, file_of}
 use Rattle.meta_server.specs.Sound.{AreNamedApart}
 use Rattle.flr_steps.specs.States.{State}
 use Rattle.flr_steps.specs.Traces.{Trace}
-use Rattle.flr_claims.specs.Files.{Plain, bytes_of}
+use Rattle.plain_files.specs.Files.{Plain, bytes_of}
 use Rattle.flr_claims.specs.Honesty.{AreHonest, IsHonest, IsHonestFile}
 use Rattle.flr_claims.specs.Runs.{store_of}
 use Rattle.flr_bytes.specs.Files.{AreSized}

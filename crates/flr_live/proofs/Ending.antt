@@ -24,7 +24,8 @@ use Rattle.flr_past.proofs.Runs.{run_kept}
 use Rattle.flr_claims.specs.Blocking.{Alone, Extents, IsWaiting, Need, Nothing, Quiet, in_way_of, needs_of}
 use Rattle.flr_claims.proofs.BlockingLaws.{blocked_where_waiting}
 use Rattle.flr_live.specs.Laws.{EachWaitEnds, NeverStuck, NoCircles}
-use Rattle.flr_live.specs.Sentences.{CanStep, EndsInStep, WaitInTurn}
+use Rattle.flr_claims.specs.Claims.{CanStep}
+use Rattle.flr_live.specs.Sentences.{EndsInStep, WaitInTurn}
 use Rattle.flr_live.proofs.Holders.{HoldsCookie, HoldsLock, in_way, in_way_of_some, shares, writes}
 use Rattle.flr_live.proofs.Knowing.{runs_know}
 use Rattle.flr_live.proofs.Needing.{AreFilesOf, needs_files}

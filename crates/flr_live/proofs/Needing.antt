@@ -39,7 +39,7 @@ use Rattle.resync_copy.specs.declared.phase.CopyStage.TheVariants as stage
 use Rattle.flr_steps.specs.declared.client.Running.{Running}
 use Rattle.flr_steps.specs.declared.client.Running.TheVariants as running
 use Rattle.flr_claims.specs.Blocking.{Alone, Extents, Need, Nothing, Quiet, alone_if, begin_needs, begin_on, command_needs, copy_needs, cut_needs, delete_needs, done_needs, flags_needs, intent_needs, lfs_needs, merge_done_needs, merge_needs, needs_of, read_needs, split_needs, split_to_needs, stage_needs, victim_needs, write_needs}
-use Rattle.flr_claims.specs.Effects.{default_name}
+use Rattle.plain_files.specs.Effects.{default_name}
 
 -- the file is one of the metadata server
 abbrev pub IsFileOf : MetaView → File → Type 0

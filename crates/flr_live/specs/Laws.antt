@@ -2,7 +2,8 @@
 use Rattle.std.specs.Prelude.{ℕ, List}
 use Rattle.flr_steps.specs.Runs.{HasCommand}
 use Rattle.flr_steps.specs.States.{IsRun, State}
-use Rattle.flr_live.specs.Sentences.{CanEnd, CanStep, EndsInStep, WaitInTurn}
+use Rattle.flr_claims.specs.Claims.{CanStep}
+use Rattle.flr_live.specs.Sentences.{CanEnd, EndsInStep, WaitInTurn}
 
 -- never stuck: after every run, while some client has a command left, some client can make its next step
 abbrev pub NeverStuck : Type 0

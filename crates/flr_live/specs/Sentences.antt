@@ -1,13 +1,9 @@
 -- Clients that wait for one another.
 use Rattle.std.specs.Prelude.{◌≡◌, ℕ, List, [], ◌∷◌, Some}
 use Rattle.flr_steps.specs.Runs.{HasCommand}
-use Rattle.flr_steps.specs.States.{State, Stepped, after, next}
+use Rattle.flr_steps.specs.States.{State, after}
 use Rattle.flr_claims.specs.Blocking.{IsWaiting}
-
--- the client can make its next step
-pub record CanStep (s : State) (c : ℕ) : Type 0 where
-  pub after : State
-  pub steps : next s c ≡ Stepped after
+use Rattle.flr_claims.specs.Claims.{CanStep}
 
 -- the client waits for the first of these, each of them for the one behind it, and the last can make its next step; where there is none, the client can make its own
 abbrev pub EndsInStep : State → ℕ → List ℕ → Type 0

@@ -7,7 +7,7 @@ use Rattle.std.proofs.lemmas.Bool.{and_parts, eqb-true}
 use Rattle.std.proofs.lemmas.Option.{slice_get_within}
 use Rattle.flr_base.specs.declared.reply.Entry.{Entry}
 use Rattle.flr_steps.specs.States.{closed}
-use Rattle.flr_claims.specs.Histories.{ArePointsAfter, FollowInOrder, IsStepOf, IsWithinInterval}
+use Rattle.plain_files.specs.Histories.{ArePointsAfter, FollowInOrder, IsStepOf, IsWithinInterval}
 use Rattle.flr_past.proofs.Lists.{get_last, get_less}
 
 -- ---- places of the schedule

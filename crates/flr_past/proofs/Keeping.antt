@@ -21,7 +21,7 @@ use Rattle.flr_steps.specs.Clients.{entry, first_now, going, over}
 use Rattle.flr_steps.specs.States.{State, client_at, closed, new_client, noted, place_in, start, stepped}
 use Rattle.flr_steps.specs.Steps.{LeavesState, StepIs}
 use Rattle.flr_steps.specs.Traces.{is_idle}
-use Rattle.flr_claims.specs.Histories.{ArePointsAfter, FollowInOrder, IsStepOf, IsWithinInterval, entries_of}
+use Rattle.plain_files.specs.Histories.{ArePointsAfter, FollowInOrder, IsStepOf, IsWithinInterval, entries_of}
 use Rattle.flr_past.specs.Phases.{FixesOnce, is_fixed}
 use Rattle.flr_past.specs.Sentences.{IsOver, IsThere}
 use Rattle.flr_past.proofs.Commands.{answers_are_fixed_once}

@@ -8,7 +8,7 @@ use Rattle.std.proofs.lemmas.List.Elements.{filter-append, filter_agree}
 use Rattle.layout_lease.proofs.Lists.{filter_mapped}
 use Rattle.flr_base.specs.declared.reply.Entry.{Entry}
 use Rattle.flr_steps.specs.States.{closed}
-use Rattle.flr_claims.specs.Histories.{entries_of}
+use Rattle.plain_files.specs.Histories.{entries_of}
 use Rattle.flr_past.specs.Sentences.{IsOver}
 use Rattle.flr_past.proofs.Lists.{all_got}
 

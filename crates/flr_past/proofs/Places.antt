@@ -5,7 +5,7 @@ use Rattle.std.specs.List.{AllByRecursion}
 use Rattle.std.proofs.lemmas.Bool.{cases_eq}
 use Rattle.flr_base.specs.declared.reply.Entry.{Entry}
 use Rattle.flr_steps.specs.States.{closed}
-use Rattle.flr_claims.specs.Histories.{FollowInOrder, HasEnded, entries_of}
+use Rattle.plain_files.specs.Histories.{FollowInOrder, HasEnded, entries_of}
 use Rattle.flr_past.specs.Sentences.{IsOpenAt, IsOver}
 use Rattle.flr_past.proofs.Lists.{map_at}
 use Rattle.flr_past.proofs.Own.{ends_open, own_got, stays_other, stays_over}

@@ -23,7 +23,7 @@ use Rattle.flr_steps.specs.Traces.{is_idle}
 use Rattle.flr_steps.proofs.Induction.{always}
 use Rattle.flr_steps.proofs.Unfinished.{unfinished_is_lowest}
 use Rattle.flr_claims.specs.Claims.{AreWhole}
-use Rattle.flr_claims.specs.Histories.{FollowInOrder, entries_of}
+use Rattle.plain_files.specs.Histories.{FollowInOrder, entries_of}
 use Rattle.flr_past.specs.Laws.{ClosingIsOfOne, EntriesHaveClients, FixedIsOpenLast, FixesWithNoneOpen, LastStepsEndOne, OneIsOpen, OnlyLastIsOpen, OthersStayOpen, RunsAreInOrder}
 use Rattle.flr_past.specs.Phases.{FixesAnswer, FixesOnce, is_fixed}
 use Rattle.flr_past.specs.Sentences.{AreOver, IsLastOpen, IsOpenAt, IsOver, IsThere, StandBy}

@@ -13,9 +13,10 @@ use Rattle.flr_steps.specs.Clients.{call_now}
 use Rattle.flr_steps.specs.Commands.{step_of}
 use Rattle.flr_steps.specs.States.{IsRun, State, client_at, closed, place_in}
 use Rattle.flr_steps.specs.Steps.{StepIs}
-use Rattle.flr_claims.specs.Histories.{entries_of}
+use Rattle.plain_files.specs.Histories.{entries_of}
 use Rattle.flr_past.specs.Phases.{FixesAnswer, FixesOnce, is_fixed}
-use Rattle.flr_past.specs.Sentences.{AreInOrder, EndsOne, IsOpenAt, IsThere, StandBy, ended_at}
+use Rattle.flr_claims.specs.Claims.{AreInOrder}
+use Rattle.flr_past.specs.Sentences.{EndsOne, IsOpenAt, IsThere, StandBy, ended_at}
 
 -- the step of a call, or of the command that begins with it, fixes an open answer at most, and ends a call whose answer is fixed
 abbrev pub AnswersAreFixedOnce : Type 0

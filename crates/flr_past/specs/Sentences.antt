@@ -3,13 +3,6 @@ use Rattle.std.specs.Prelude.{◌≡◌, ℕ, ◌+◌, ◌<◌, ◌≤◌, Bool,
 use Rattle.std.specs.List.{AllByRecursion}
 use Rattle.flr_base.specs.declared.reply.Entry.{Entry}
 use Rattle.flr_steps.specs.States.{State, place_in}
-use Rattle.flr_claims.specs.Histories.{ArePointsAfter, FollowInOrder, IsWithinInterval, entries_of}
-
--- each entry is within its interval, the points ascend, and each client's entries have the numbers from 1 on and follow one another
-pub record AreInOrder (s : State) : Type 0 where
-  pub within : AllByRecursion (IsWithinInterval s.schedule) s.entries
-  pub points : ArePointsAfter 0 s.entries
-  pub in_order : (client : ℕ) → FollowInOrder 1 0 (entries_of client s.entries)
 
 -- there is a client with this number: they count from 1
 abbrev pub IsThere : State → ℕ → Type 0

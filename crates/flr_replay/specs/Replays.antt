@@ -10,8 +10,8 @@ use Rattle.script_text.specs.Replays.{replay_of}
 use Rattle.flr_steps.specs.Reports.{text_of_run}
 use Rattle.flr_steps.specs.Schedules.{IsCutShort, IsStopped, IsTaken, Why, places_of}
 use Rattle.flr_steps.specs.States.{State}
-use Rattle.flr_claims.specs.Histories.{IsWhole}
-use Rattle.flr_world.specs.Claims.{IsSoundRun}
+use Rattle.plain_files.specs.Histories.{IsWhole}
+use Rattle.flr_claims.specs.Claims.{IsSoundRun}
 use Rattle.flr_replay.specs.Lines.{cut_short_line, stopped_line}
 
 -- status 0: the bytes spell a script and a schedule that it takes, and the text is the report of that run. Every command stands in it once and has ended, and the run is sound

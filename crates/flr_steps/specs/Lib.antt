@@ -8,3 +8,4 @@ pub mod Traces
 pub mod Steps
 pub mod Runs
 pub mod Owners
+pub mod Destinations

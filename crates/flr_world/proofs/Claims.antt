@@ -9,7 +9,7 @@ use Rattle.flr_live.proofs.Ending.{never_stuck}
 use Rattle.flr_past.proofs.Runs.{runs_are_in_order}
 use Rattle.flr_runs.proofs.Runs.{all_hold, runs_leave, runs_short}
 use Rattle.flr_sole.proofs.Runs.{runs_hold_alone}
-use Rattle.flr_world.specs.Claims.{ChangesAreExplained, IsSoundRun}
+use Rattle.flr_claims.specs.Claims.{ChangesAreExplained, IsSoundRun}
 
 changes : (s : State) → IsRun s → ChangesAreExplained s
 changes s run place c old new at made = steps_explained old new c (fronts_are_runs s old place run at) (runs_leave (length old.schedule)) (step_is old new c made)

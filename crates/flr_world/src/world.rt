@@ -4,7 +4,7 @@ ghost use Rattle.std.specs.Prelude.{◌≡◌, ◌<◌, ◌+◌, ◌≤◌, ◌�
 ghost use Rattle.script_values.specs.Scripts.{command_after};
 ghost use Rattle.flr_steps.specs.States.{IsRun, new_client, start, unfinished_of};
 ghost use Rattle.flr_world.specs.Answers.{StepGives};
-ghost use Rattle.flr_world.specs.Claims.{IsSoundRun};
+ghost use Rattle.flr_claims.specs.Claims.{IsSoundRun};
 ghost use Rattle.flr_world.specs.Counts.{unfinished_count};
 
 use crate::member::{Member, new_members};

@@ -17,8 +17,8 @@ use Rattle.flr_steps.specs.Runs.{doing_after}
 use Rattle.flr_steps.specs.States.{State, place_in}
 use Rattle.flr_steps.specs.Steps.{LeavesState}
 use Rattle.flr_steps.specs.Traces.{Made, Trace, doing_of, has_landed, sent_calls, traced}
-use Rattle.flr_claims.specs.Effects.{effect}
-use Rattle.flr_claims.specs.Files.{Sent}
+use Rattle.plain_files.specs.Effects.{effect}
+use Rattle.plain_files.specs.Files.{Sent}
 use Rattle.flr_claims.specs.Runs.{store_of}
 use Rattle.flr_claims.specs.Sending.{Attempt, attempt_of, cut_attempt, sent_by, write_attempt}
 use Rattle.flr_bytes.specs.Files.{AreSized, Closes, HasLandedOver}

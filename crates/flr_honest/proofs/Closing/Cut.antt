@@ -11,8 +11,8 @@ use Rattle.client_write.specs.declared.phase.Sent.{Sent}
 use Rattle.client_write.specs.declared.phase.Sent.TheVariants as ending
 use Rattle.client_write.specs.Truncates.{cut_reply}
 use Rattle.flr_steps.specs.Traces.{Made, has_landed}
-use Rattle.flr_claims.specs.Effects.{truncated, with_bytes}
-use Rattle.flr_claims.specs.Files.{Plain, SentTail, Tails, bytes_of, fit, is_punched, plain_of, wipe}
+use Rattle.plain_files.specs.Effects.{truncated, with_bytes}
+use Rattle.plain_files.specs.Files.{Plain, SentTail, Tails, bytes_of, fit, is_punched, plain_of, wipe}
 use Rattle.flr_claims.specs.Sending.{OfTruncate, tail_for}
 use Rattle.flr_bytes.specs.Sent.{AllLanded, AreSentFor, AreSentTo}
 use Rattle.flr_bytes.proofs.StoreEffects.{own_new}

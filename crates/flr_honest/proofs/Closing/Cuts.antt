@@ -25,8 +25,8 @@ use Rattle.flr_steps.specs.Clients.{call_now, going}
 use Rattle.flr_steps.specs.Runs.{doing_after}
 use Rattle.flr_steps.specs.States.{State}
 use Rattle.flr_steps.specs.Traces.{Made, Trace, doing_of, sent_calls, traced}
-use Rattle.flr_claims.specs.Effects.{effect, truncated}
-use Rattle.flr_claims.specs.Files.{Plain, SentTail, Tails, bytes_of, plain_of}
+use Rattle.plain_files.specs.Effects.{effect, truncated}
+use Rattle.plain_files.specs.Files.{Plain, SentTail, Tails, bytes_of, plain_of}
 use Rattle.flr_claims.specs.Runs.{store_of}
 use Rattle.flr_claims.specs.Sending.{Attempt, OfTruncate, attempt_of, components_for, cut_attempt, cutting_of, is_over, sent_by, tail_for}
 use Rattle.flr_numbers.specs.Calls.{cut_hand}

@@ -7,8 +7,8 @@ use Rattle.lfs_words.specs.declared.command.LfsCommand.TheVariants as lfs
 use Rattle.script_values.specs.declared.command.Command.{Command}
 use Rattle.script_values.specs.declared.command.Command.TheVariants as command
 use Rattle.client_write.specs.Calls.{TruncateView, WriteView}
-use Rattle.flr_claims.specs.Effects.{effect, lfs_effect, made, split_off, taken_in, truncated, without_file, wrote}
-use Rattle.flr_claims.specs.Files.{Plain, Sent, bytes_of, plain_of}
+use Rattle.plain_files.specs.Effects.{effect, lfs_effect, made, split_off, taken_in, truncated, without_file, wrote}
+use Rattle.plain_files.specs.Files.{Plain, Sent, bytes_of, plain_of}
 use Rattle.flr_bytes.proofs.StoreEffects.{taken_kept}
 use Rattle.flr_honest.proofs.Closing.Asking.{IsTruncateFor, IsWriteFor, WritesNothing}
 use Rattle.flr_honest.proofs.Closing.Outcomes.{IsQuiet}

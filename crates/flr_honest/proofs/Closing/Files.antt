@@ -14,8 +14,8 @@ use Rattle.flr_steps.specs.Clients.{call_now, going}
 use Rattle.flr_steps.specs.Runs.{doing_after}
 use Rattle.flr_steps.specs.States.{State}
 use Rattle.flr_steps.specs.Traces.{Trace, traced}
-use Rattle.flr_claims.specs.Effects.{effect}
-use Rattle.flr_claims.specs.Files.{Plain, Sent, bytes_of, plain_of}
+use Rattle.plain_files.specs.Effects.{effect}
+use Rattle.plain_files.specs.Files.{Plain, Sent, bytes_of, plain_of}
 use Rattle.flr_claims.specs.Runs.{store_of}
 use Rattle.flr_claims.specs.Sending.{Part, attempt_of, is_over, sent_by}
 use Rattle.flr_bytes.specs.Files.{AreSized, Closes, HasLandedOver}

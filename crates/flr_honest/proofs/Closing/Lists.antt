@@ -4,7 +4,7 @@ use Rattle.std.specs.Prelude.{slice_get}
 use Rattle.std.specs.List.{AllByRecursion}
 use Rattle.std.proofs.lemmas.List.{get_or_past}
 use Rattle.std.proofs.lemmas.List.FromFn.{get_or-map-range_with_len, length-map-range_with_len}
-use Rattle.flr_claims.specs.Files.{made_by}
+use Rattle.plain_files.specs.Files.{made_by}
 
 -- what a list made by a function has within it
 pub made_within : (len : ℕ) (byte : ℕ → ℕ) (x : ℕ) → x < len → get_or (made_by len byte) x 0 ≡ byte x

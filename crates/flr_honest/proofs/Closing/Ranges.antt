@@ -7,7 +7,7 @@ use Rattle.stripe_map.specs.Cutting.{Tile}
 use Rattle.mirror_select.specs.declared.types.Piece.{Piece}
 use Rattle.object_target.specs.declared.fail.Fail.{Fail}
 use Rattle.flr_steps.specs.Traces.{Made, has_landed}
-use Rattle.flr_claims.specs.Files.{end_of, is_in, is_written}
+use Rattle.plain_files.specs.Files.{end_of, is_in, is_written}
 use Rattle.flr_claims.specs.Sending.{OfWrite, ranges_from}
 use Rattle.flr_bytes.specs.Sent.{AreSentFor}
 use Rattle.flr_honest.proofs.Closing.Lists.{either, first_passes, second_passes}

@@ -8,8 +8,8 @@ use Rattle.std.proofs.lemmas.Slice.Eq.{bytes_eq-Decides}
 use Rattle.meta_laws.proofs.Finding.{found_keeps, numbered}
 use Rattle.meta_server.specs.Files.{File, file_of}
 use Rattle.meta_server.specs.Sound.{AreNamedApart}
-use Rattle.flr_claims.specs.Effects.{with_file, without_file}
-use Rattle.flr_claims.specs.Files.{Plain, bytes_at, bytes_of, plain_at, plain_from, plain_of}
+use Rattle.plain_files.specs.Effects.{with_file, without_file}
+use Rattle.plain_files.specs.Files.{Plain, bytes_at, bytes_of, plain_at, plain_from, plain_of}
 use Rattle.flr_bytes.specs.Files.{AreSized}
 use Rattle.flr_bytes.specs.Sentences.{byte_of}
 use Rattle.flr_bytes.proofs.StoreEffects.{bytes_first, dropped, first_bytes, without_dropped}

@@ -12,7 +12,7 @@ use Rattle.mirror_select.proofs.Least.{In, any_in, found_in, found_none}
 use Rattle.object_target.specs.declared.call.CallKind.TheVariants as kind
 use Rattle.object_target.specs.declared.fail.Fail.{Fail}
 use Rattle.flr_steps.specs.Traces.{Made, has_landed}
-use Rattle.flr_claims.specs.Files.{SentTail, is_in, is_punched}
+use Rattle.plain_files.specs.Files.{SentTail, is_in, is_punched}
 use Rattle.flr_claims.specs.Sending.{OfTruncate, is_stripe_of, tail_for}
 use Rattle.flr_shapes.specs.Sentences.{IsStripeIn, Shape}
 use Rattle.flr_bytes.specs.Sent.{AreSentFor, IsCallOn}

@@ -18,8 +18,8 @@ use Rattle.flr_steps.specs.Clients.{call_now, going}
 use Rattle.flr_steps.specs.Runs.{doing_after}
 use Rattle.flr_steps.specs.States.{State}
 use Rattle.flr_steps.specs.Traces.{Made, Trace, doing_of, sent_calls, traced}
-use Rattle.flr_claims.specs.Effects.{effect, wrote}
-use Rattle.flr_claims.specs.Files.{Plain, Ranges, SentRange, bytes_of, is_written, plain_of}
+use Rattle.plain_files.specs.Effects.{effect, wrote}
+use Rattle.plain_files.specs.Files.{Plain, Ranges, SentRange, bytes_of, is_written, plain_of}
 use Rattle.flr_claims.specs.Runs.{store_of}
 use Rattle.flr_claims.specs.Sending.{Attempt, OfWrite, attempt_of, is_over, ranges_from, sent_by, write_attempt}
 use Rattle.flr_numbers.specs.Calls.{write_hand}

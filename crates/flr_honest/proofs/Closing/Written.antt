@@ -16,8 +16,8 @@ use Rattle.client_write.specs.Fitting.{HasPieces, IsAsked}
 use Rattle.client_write.specs.Views.{WritingView}
 use Rattle.client_write.specs.Writes.{reply_of}
 use Rattle.flr_steps.specs.Traces.{Made, has_landed}
-use Rattle.flr_claims.specs.Effects.{wrote}
-use Rattle.flr_claims.specs.Files.{Plain, Ranges, SentRange, bytes_of, end_of, is_written, land, plain_of}
+use Rattle.plain_files.specs.Effects.{wrote}
+use Rattle.plain_files.specs.Files.{Plain, Ranges, SentRange, bytes_of, end_of, is_written, land, plain_of}
 use Rattle.flr_claims.specs.Sending.{OfWrite, ranges_from}
 use Rattle.flr_bytes.specs.Sent.{AllLanded, AreSentFor, AreSentTo}
 use Rattle.flr_bytes.proofs.StoreEffects.{own_new}

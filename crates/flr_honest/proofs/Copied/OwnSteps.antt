@@ -54,7 +54,7 @@ use Rattle.flr_steps.specs.Traces.{Trace, is_opening, traced}
 use Rattle.flr_steps.specs.Traces as traces
 use Rattle.flr_claims.specs.Runs.{store_of}
 use Rattle.flr_claims.specs.Sending.{Part, attempt_of, part_object}
-use Rattle.flr_claims.specs.Files.{bytes_of}
+use Rattle.plain_files.specs.Files.{bytes_of}
 use Rattle.flr_sole.specs.Copies.{HasLandedOn}
 use Rattle.flr_sole.specs.Copies as sole
 use Rattle.flr_sole.proofs.Keeping.{alone, now_opens, written}

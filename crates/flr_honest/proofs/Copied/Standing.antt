@@ -29,7 +29,7 @@ use Rattle.copy_laws.proofs.Less.{kept_over}
 use Rattle.copy_laws.proofs.Places.{listed_object}
 use Rattle.flr_steps.specs.States.{State}
 use Rattle.flr_steps.specs.Traces.{Trace}
-use Rattle.flr_claims.specs.Files.{Plain, bytes_of}
+use Rattle.plain_files.specs.Files.{Plain, bytes_of}
 use Rattle.flr_claims.specs.Honesty.{IsOf, IsOpen, content}
 use Rattle.flr_claims.specs.Sending.{OfTruncate, OfWrite, Part, is_over, part_object, reach_of}
 use Rattle.flr_sole.specs.Copies.{HasLandedOn, IsBegun, IsSideOf, NoneLands, anywhere}

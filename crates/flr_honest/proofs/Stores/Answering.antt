@@ -16,10 +16,10 @@ use Rattle.flr_steps.specs.States.{State, closed, place_in}
 use Rattle.flr_steps.specs.Steps.{LeavesState}
 use Rattle.flr_steps.specs.Traces.{Doing, Past, Trace, traced_by}
 use Rattle.flr_steps.proofs.TraceLaws.{steps_are_traced}
-use Rattle.flr_claims.specs.Effects.{effect}
-use Rattle.flr_claims.specs.Files.{Plain}
-use Rattle.flr_claims.specs.Histories.{store_after}
-use Rattle.flr_claims.specs.Histories as histories
+use Rattle.plain_files.specs.Effects.{effect}
+use Rattle.plain_files.specs.Files.{Plain}
+use Rattle.plain_files.specs.Histories.{store_after}
+use Rattle.plain_files.specs.Histories as histories
 use Rattle.flr_claims.specs.Runs.{answered_calls, store_of, with_command}
 use Rattle.flr_claims.specs.Sending.{sent_by}
 use Rattle.flr_bytes.specs.Laws.{StepsKeepStore, StoreBy}

@@ -35,8 +35,8 @@ use Rattle.flr_steps.specs.Runs.{doing_after}
 use Rattle.flr_steps.specs.States.{State, place_in}
 use Rattle.flr_steps.specs.Steps.{LeavesState}
 use Rattle.flr_steps.specs.Traces.{Trace}
-use Rattle.flr_claims.specs.Effects.{effect, lfs_effect, with_file}
-use Rattle.flr_claims.specs.Files.{Plain, Sent, bytes_of, plain_from}
+use Rattle.plain_files.specs.Effects.{effect, lfs_effect, with_file}
+use Rattle.plain_files.specs.Files.{Plain, Sent, bytes_of, plain_from}
 use Rattle.flr_claims.specs.Runs.{store_of}
 use Rattle.flr_claims.specs.Sending.{sent_by}
 use Rattle.flr_numbers.proofs.Inverting.{was_found, was_pushed}

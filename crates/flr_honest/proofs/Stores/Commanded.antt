@@ -18,8 +18,8 @@ use Rattle.resync_copy.specs.Calls.{CopyView}
 use Rattle.flr_steps.specs.declared.client.Running.{Running}
 use Rattle.flr_steps.specs.declared.client.Running.TheVariants as running
 use Rattle.flr_steps.specs.Commands.{begun, begun_lfs}
-use Rattle.flr_claims.specs.Effects.{effect}
-use Rattle.flr_claims.specs.Files.{Plain, Sent}
+use Rattle.plain_files.specs.Effects.{effect}
+use Rattle.plain_files.specs.Files.{Plain, Sent}
 use Rattle.flr_asked.specs.Sentences.{at_start}
 use Rattle.flr_honest.proofs.Stores.Copying.{taken_by}
 

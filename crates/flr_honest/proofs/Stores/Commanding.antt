@@ -27,9 +27,9 @@ use Rattle.mirror_admin.specs.OneStep.{answered, default_name, one_step, shows}
 use Rattle.call_steps.specs.Servers.{Servers}
 use Rattle.flr_steps.specs.declared.client.Running.{Running}
 use Rattle.flr_steps.specs.Commands.{answered_by, at_once}
-use Rattle.flr_claims.specs.Effects.{effect, lfs_effect, made}
-use Rattle.flr_claims.specs.Effects as effects
-use Rattle.flr_claims.specs.Files.{Plain, Sent, bytes_of}
+use Rattle.plain_files.specs.Effects.{effect, lfs_effect, made}
+use Rattle.plain_files.specs.Effects as effects
+use Rattle.plain_files.specs.Files.{Plain, Sent, bytes_of}
 use Rattle.flr_bytes.specs.Files.{AreSized}
 use Rattle.flr_honest.proofs.Stores.Outcomes.{AreAlike, OnFiles}
 use Rattle.flr_honest.proofs.Stores.Sizing.{changed_alike, evicted_alike, found_sized, sized_alike, sized_pushed}

@@ -50,8 +50,8 @@ use Rattle.resync_copy.specs.Copies.{ends_copy, fences_object, first_writer, obj
 use Rattle.resync_copy.specs.Merges.{ends_merge, kept_answer, merge_ends_with, merge_fences_object, merge_settled, merge_settles, merge_stage_at, our_piece, takes_ours, takes_theirs, their_piece}
 use Rattle.resync_copy.specs.Steps.{begins, copy_at}
 use Rattle.resync_copy.specs.Views.{CopyingView, fences_of, resets_of}
-use Rattle.flr_claims.specs.Effects.{taken_in}
-use Rattle.flr_claims.specs.Files.{Plain}
+use Rattle.plain_files.specs.Effects.{taken_in}
+use Rattle.plain_files.specs.Files.{Plain}
 use Rattle.flr_bytes.specs.Files.{AreSized}
 use Rattle.flr_bytes.specs.Victims.{CopyHas, IsKept, IsRefusal, IsVictim, MergeHas}
 use Rattle.flr_honest.proofs.Stores.Outcomes.{AreAlike, OnFiles}

@@ -13,7 +13,7 @@ use Rattle.client_write.specs.Fitting.{HasPieces, IsAsked, IsSoundSent}
 use Rattle.client_write.specs.Views.{WritingView}
 use Rattle.client_write.specs.Writes as writes
 use Rattle.flr_steps.specs.Traces.{Made}
-use Rattle.flr_claims.specs.Files.{end_of}
+use Rattle.plain_files.specs.Files.{end_of}
 use Rattle.flr_claims.specs.Sending.{OfWrite, ranges_from}
 use Rattle.flr_bytes.specs.Sent.{AreSentFor, AreSentTo}
 

@@ -3,7 +3,7 @@ use Rattle.std.proofs.Common.{◌≡◌, List, map, sym, subst}
 use Rattle.flr_base.specs.declared.reply.Reply.{Reply}
 use Rattle.meta_server.specs.Files.{MetaView}
 use Rattle.call_steps.specs.Steps.{Outcome, Going, Fixed, Ended, Answered, Blocked, widen}
-use Rattle.flr_claims.specs.Files.{Plain}
+use Rattle.plain_files.specs.Files.{Plain}
 use Rattle.flr_behind.proofs.Steps.{OnMeta}
 use Rattle.flr_bytes.specs.Files.{AreSized}
 use Rattle.flr_honest.proofs.Stores.Sizing.{shape_of, sized_alike}

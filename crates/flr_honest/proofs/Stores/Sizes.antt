@@ -33,8 +33,8 @@ use Rattle.flr_steps.specs.Runs.{doing_after}
 use Rattle.flr_steps.specs.States.{State, place_in}
 use Rattle.flr_steps.specs.Steps.{LeavesState}
 use Rattle.flr_steps.specs.Traces.{Doing, Made, Trace, doing_of, done_with, is_idle, is_opening, made_by, sent_calls, write_opens}
-use Rattle.flr_claims.specs.Effects.{effect}
-use Rattle.flr_claims.specs.Files.{Plain, Sent, SentRange, SentTail, end_of}
+use Rattle.plain_files.specs.Effects.{effect}
+use Rattle.plain_files.specs.Files.{Plain, Sent, SentRange, SentTail, end_of}
 use Rattle.flr_claims.specs.Runs.{store_of}
 use Rattle.flr_claims.specs.Sending.{OfWrite, components_for, cutting_of, ranges_from, sent_by, tail_for}
 use Rattle.flr_numbers.specs.Calls.{IsWriteOf, cut_hand, write_hand}

@@ -9,9 +9,9 @@ use Rattle.meta_server.specs.Sound.{AreNamedApart}
 use Rattle.meta_server.proofs.Placing.{changed_none}
 use Rattle.meta_laws.proofs.Finding.{found_keeps}
 use Rattle.std.specs.Cmp.Lexicographic.{other_text, same_text}
-use Rattle.flr_claims.specs.Effects.{with_bytes, with_file}
-use Rattle.flr_claims.specs.Effects as effects
-use Rattle.flr_claims.specs.Files.{Plain, bytes_of}
+use Rattle.plain_files.specs.Effects.{with_bytes, with_file}
+use Rattle.plain_files.specs.Effects as effects
+use Rattle.plain_files.specs.Files.{Plain, bytes_of}
 use Rattle.flr_bytes.specs.Files.{AreSized}
 use Rattle.flr_bytes.proofs.StoreEffects.{bytes_first, bytes_renewed, dropped, first_bytes, renewed, without_dropped}
 

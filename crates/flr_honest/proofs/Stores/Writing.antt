@@ -33,8 +33,8 @@ use Rattle.client_write.specs.Truncates.{commits_cut, first_blocker, locks_for, 
 use Rattle.client_write.specs.Views.{CuttingView, WritingView}
 use Rattle.client_write.specs.Writes as writes
 use Rattle.client_write.specs.Writes.{commits_write, opens, range_of, write_at}
-use Rattle.flr_claims.specs.Effects.{truncated, with_bytes, wrote}
-use Rattle.flr_claims.specs.Files.{Plain, SentRange, SentTail, Ranges, Tails, end_of, fit, is_punched, is_written, land, wipe}
+use Rattle.plain_files.specs.Effects.{truncated, with_bytes, wrote}
+use Rattle.plain_files.specs.Files.{Plain, SentRange, SentTail, Ranges, Tails, end_of, fit, is_punched, is_written, land, wipe}
 use Rattle.flr_behind.specs.Sentences.{IsKnown}
 use Rattle.flr_bytes.specs.Files.{AreSized}
 use Rattle.flr_honest.proofs.Stores.Ends.{EndsWhere}

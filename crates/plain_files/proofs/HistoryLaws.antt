@@ -3,7 +3,7 @@ use Rattle.std.proofs.Common.{◌≡◌, ℕ, ◌<◌, ◌≤◌, List, [], ◌�
 use Rattle.std.proofs.lemmas.Bool.{cases_lt}
 use Rattle.std.specs.List.{AllByRecursion}
 use Rattle.flr_base.specs.declared.reply.Entry.{Entry}
-use Rattle.flr_claims.specs.Histories.{Answered, ArePointsAfter, IsWithinInterval, EndedComesBefore}
+use Rattle.plain_files.specs.Histories.{Answered, ArePointsAfter, IsWithinInterval, EndedComesBefore}
 
 abbrev entry_of : Answered → Entry
 entry_of a = a.entry

@@ -5,7 +5,7 @@ use Rattle.std.proofs.lemmas.List.{ext_get_or}
 use Rattle.std.proofs.lemmas.List.FromFn.{get_or-map-range_with_len, length-map-range_with_len}
 use Rattle.flr_base.specs.Bytes.{overlay}
 use Rattle.flr_base.proofs.Bytes.{length-overlay, overlay_in, overlay_out}
-use Rattle.flr_claims.specs.Files.{made_by, is_written, end_of, LandsWhole, FitsItself}
+use Rattle.plain_files.specs.Files.{made_by, is_written, end_of, LandsWhole, FitsItself}
 
 -- a list made by a function is another where it is as long and each byte is the function's
 made_is : (len : ℕ) (byte : ℕ → ℕ) (xs : List ℕ) → length xs ≡ len → ((x : ℕ) → x < len → byte x ≡ get_or xs x 0) → made_by len byte ≡ xs

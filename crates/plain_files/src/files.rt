@@ -1,6 +1,6 @@
 //! What writes and truncates that got only so far leave of a file.
 
-ghost use Rattle.flr_claims.specs.Files.{FitsItself, LandsWhole};
+ghost use Rattle.plain_files.specs.Files.{FitsItself, LandsWhole};
 
 /// A write that got to its end leaves what a write leaves.
 #[tactic(auto, using(crate::proofs::FileLaws::lands_whole))]

@@ -11,7 +11,7 @@ use Rattle.lfs_words.specs.declared.command.SplitTo.{SplitTo}
 use Rattle.lfs_words.specs.declared.command.SplitTo.TheVariants as split
 use Rattle.script_values.specs.declared.command.Command.{Command}
 use Rattle.script_values.specs.declared.command.Command.TheVariants as command
-use Rattle.flr_claims.specs.Files.{Plain, Sent, Ranges, Tails, IsPresent, IsAbsent, AreSameBytes, plain_of, plain_at, bytes_of, land, fit, wipe}
+use Rattle.plain_files.specs.Files.{Plain, Sent, Ranges, Tails, IsPresent, IsAbsent, AreSameBytes, plain_of, plain_at, bytes_of, land, fit, wipe}
 
 -- the greatest size of a file
 abbrev pub most_bytes : ℕ

@@ -4,8 +4,8 @@ use Rattle.std.specs.List.{filter, AllByRecursion}
 use Rattle.flr_base.specs.declared.reply.Entry.{Entry}
 use Rattle.script_values.specs.declared.command.Command.{Command}
 use Rattle.script_values.specs.Scripts.{ScriptView, command_after, commands_of}
-use Rattle.flr_claims.specs.Files.{Plain, Sent}
-use Rattle.flr_claims.specs.Effects.{Allows, effect}
+use Rattle.plain_files.specs.Files.{Plain, Sent}
+use Rattle.plain_files.specs.Effects.{Allows, effect}
 
 -- an answered call: its entry, the command that it answers, and what was sent for it
 pub record Answered : Type 0 where
