@@ -122,9 +122,9 @@ splits name mirror to files (Some f) answer e =
     either OfSplit (option_map refusal_of (keeping mirror f.layout.components)) _ answer
     (kept OfSplit mirror (has_mirror mirror f.layout.components) (has_fresh (without mirror f.layout.components)) answer tt tt)
     (either OfSplit (refused_if (not (wholly_fresh mirror f.layout.components)) (reply.StaleMirror mirror)) _ answer
-     (refused OfSplit (not (wholly_fresh mirror f.layout.components)) (reply.StaleMirror mirror) answer tt)
-     (either OfSplit (refused_if (is_some (file_named to files)) (reply.Exists to)) _ answer (refused OfSplit (is_some (file_named to files)) (reply.Exists to) answer tt)
-      (refused OfSplit (is_full files) reply.TooManyFiles answer tt)))
+    (refused OfSplit (not (wholly_fresh mirror f.layout.components)) (reply.StaleMirror mirror) answer tt)
+    (either OfSplit (refused_if (is_some (file_named to files)) (reply.Exists to)) _ answer (refused OfSplit (is_some (file_named to files)) (reply.Exists to) answer tt)
+    (refused OfSplit (is_full files) reply.TooManyFiles answer tt)))
     e
 
 resyncs : (name : List ℕ) (only : Option (List ℕ)) (m : MetaView) (o : Option File) (answer : Reply) → resync_refusal name only m o ≡ Some answer → OfResync answer
@@ -148,8 +148,8 @@ victims victim m f (Some v) answer e =
     either OfExtendBy (option_map refusal_of (excess f.layout (length (mirror_ids v.layout.components)) (length v.layout.components) m.most)) _ answer
     (too_many OfExtendBy f.layout (length (mirror_ids v.layout.components)) (length v.layout.components) m.most answer tt tt)
     (either OfExtendBy (busy m f) _ answer (held f)
-     (either OfExtendBy (busy m v) _ answer (held v)
-      (either OfExtendBy (option_map reply.AllOffline (offline_byte f.layout)) (option_map reply.AllOffline (offline_byte v.layout)) answer (offline f) (offline v))))
+    (either OfExtendBy (busy m v) _ answer (held v)
+    (either OfExtendBy (option_map reply.AllOffline (offline_byte f.layout)) (option_map reply.AllOffline (offline_byte v.layout)) answer (offline f) (offline v))))
     e
   where
     held : (g : File) → busy m g ≡ Some answer → OfExtendBy answer
