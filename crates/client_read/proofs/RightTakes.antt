@@ -24,7 +24,7 @@ use Rattle.call_steps.specs.Runs.{CallStep}
 use Rattle.client_read.specs.Fitting.{HasPieces, IsAsked}
 use Rattle.client_read.specs.Got.{GotView}
 use Rattle.client_read.specs.Pieces.{holes_first, is_hole, take_of, nothing_got, with_holes, with_piece}
-use Rattle.client_read.specs.Told.{ComeFrom, HasBytes, IsReadBy, IsRightTake}
+use Rattle.client_read.specs.Told.{ComeFrom, HasBytes, IsReadBy, TellsItsSource}
 use Rattle.client_read.specs.Views.{ReadView}
 use Rattle.client_read.proofs.Readable.{are_pieces, lies}
 
@@ -76,7 +76,7 @@ module _ (cs : List Component) (failed : List ℕ) (p : Piece) (g : IsGiven cs f
   stands o e x ge lt = let l = g.whole.bytes x ge lt in let here = l.offset in let first = starts in (l.object ∙ e, omega (arith, here, first))
 
   -- the take of a piece whose bytes come from there
-  pub right : (steps : List (CallStep ReadView)) (bytes : List ℕ) (source : TakeFrom) → ComeFrom steps g.component p.range bytes source → IsRightTake steps cs (take_of p source) bytes
+  pub right : (steps : List (CallStep ReadView)) (bytes : List ℕ) (source : TakeFrom) → ComeFrom steps g.component p.range bytes source → TellsItsSource steps cs (take_of p source) bytes
   right steps bytes source come = record {
     component = g.component;
     there = g.there;
@@ -88,7 +88,7 @@ module _ (cs : List Component) (failed : List ℕ) (p : Piece) (g : IsGiven cs f
     source = come;
   }
 
-  pub hole_right : (steps : List (CallStep ReadView)) → is_hole p ≡ true → IsRightTake steps cs (take_of p Hole) (zeros (length_of p))
+  pub hole_right : (steps : List (CallStep ReadView)) → is_hole p ≡ true → TellsItsSource steps cs (take_of p Hole) (zeros (length_of p))
   hole_right steps e = right steps (zeros (length_of p)) Hole (sym g.whole.object ∙ no_object p.object e, refl)
     where
       no_object : (o : Option ObjectId) → is_none o ≡ true → is_some o ≡ false
@@ -97,7 +97,7 @@ module _ (cs : List Component) (failed : List ℕ) (p : Piece) (g : IsGiven cs f
 
   -- the step reads the piece
   pub read_right : (steps : List (CallStep ReadView)) (made : CallStep ReadView) (call : ℕ) (bytes : List ℕ) → p.object ≡ Some (object_of p) → Contains steps made →
-      IsReadBy made (object_of p) p.offset (length_of p) call bytes → IsRightTake steps cs (take_of p (Object (object_of p) call)) bytes
+      IsReadBy made (object_of p) p.offset (length_of p) call bytes → TellsItsSource steps cs (take_of p (Object (object_of p) call)) bytes
   read_right steps made call bytes e in' reads =
       right steps bytes (Object (object_of p) call)
       (sym g.whole.object ∙ ap is_some e, stands (object_of p) e, (made, in', subst (λ (offset : ℕ). IsReadBy made (object_of p) offset (length_of p) call bytes) (sym starts) reads))
@@ -107,7 +107,7 @@ module _ (cs : List Component) (failed : List ℕ) (p : Piece) (g : IsGiven cs f
 -- these are right takes of the pieces, with their bytes
 pub record IsGot (steps : List (CallStep ReadView)) (cs : List Component) (g : GotView) (ps : List Piece) : Type 0 where
   pub parts : List (List ℕ)
-  pub takes : AllZip (IsRightTake steps cs) g.takes parts
+  pub takes : AllZip (TellsItsSource steps cs) g.takes parts
   pub bytes : g.bytes ≡ concat parts
   pub ranges : map (λ (t : Take). t.range) g.takes ≡ map (λ (p : Piece). p.range) ps
 
@@ -129,7 +129,7 @@ come_more : (steps : List (CallStep ReadView)) (made : CallStep ReadView) (c : C
 come_more steps made c range bytes Hole h = h
 come_more steps made c range bytes (Object object call) h = (h.0, h.1, (h.2.0, Contains-append_left steps (made ∷ []) h.2.0 h.2.1, h.2.2))
 
-right_more : (steps : List (CallStep ReadView)) (made : CallStep ReadView) (cs : List Component) (t : Take) (bytes : List ℕ) → IsRightTake steps cs t bytes → IsRightTake (steps ++ made ∷ []) cs t bytes
+right_more : (steps : List (CallStep ReadView)) (made : CallStep ReadView) (cs : List Component) (t : Take) (bytes : List ℕ) → TellsItsSource steps cs t bytes → TellsItsSource (steps ++ made ∷ []) cs t bytes
 right_more steps made cs t bytes h = record {
   component = h.component;
   there = h.there;
@@ -144,7 +144,7 @@ right_more steps made cs t bytes h = record {
 pub got_more : (steps : List (CallStep ReadView)) (made : CallStep ReadView) (cs : List Component) (g : GotView) (ps : List Piece) → IsGot steps cs g ps → IsGot (steps ++ made ∷ []) cs g ps
 got_more steps made cs g ps h = record {
   parts = h.parts;
-  takes = zip_weaker (IsRightTake steps cs) (IsRightTake (steps ++ made ∷ []) cs) (right_more steps made cs) g.takes h.parts h.takes;
+  takes = zip_weaker (TellsItsSource steps cs) (TellsItsSource (steps ++ made ∷ []) cs) (right_more steps made cs) g.takes h.parts h.takes;
   bytes = h.bytes;
   ranges = h.ranges;
 }
@@ -153,10 +153,10 @@ pub got_nothing : (steps : List (CallStep ReadView)) (cs : List Component) → I
 got_nothing steps cs = record { parts = []; takes = tt; bytes = refl; ranges = refl }
 
 -- one more piece
-pub got_piece : (steps : List (CallStep ReadView)) (cs : List Component) (g : GotView) (ps : List Piece) (p : Piece) (bytes : List ℕ) (source : TakeFrom) → IsGot steps cs g ps → IsRightTake steps cs (take_of p source) bytes → IsGot steps cs (with_piece p bytes source g) (ps ++ p ∷ [])
+pub got_piece : (steps : List (CallStep ReadView)) (cs : List Component) (g : GotView) (ps : List Piece) (p : Piece) (bytes : List ℕ) (source : TakeFrom) → IsGot steps cs g ps → TellsItsSource steps cs (take_of p source) bytes → IsGot steps cs (with_piece p bytes source g) (ps ++ p ∷ [])
 got_piece steps cs g ps p bytes source h r = record {
   parts = h.parts ++ bytes ∷ [];
-  takes = zip_push (IsRightTake steps cs) g.takes h.parts (take_of p source) bytes h.takes r;
+  takes = zip_push (TellsItsSource steps cs) g.takes h.parts (take_of p source) bytes h.takes r;
   bytes = ap (λ (b : List ℕ). b ++ bytes) h.bytes ∙ ap (λ (b : List ℕ). concat h.parts ++ b) (sym (append-nil bytes)) ∙ sym (concat-append h.parts (bytes ∷ []));
   ranges = map-append (λ (t : Take). t.range) g.takes (take_of p source ∷ []) ∙ ap (λ (rs : List Range). rs ++ p.range ∷ []) h.ranges ∙ sym (map-append (λ (q : Piece). q.range) ps (p ∷ []));
 }

@@ -38,7 +38,7 @@ abbrev pub failed_takes : List (CallStep ReadView) → List FailedTake
 failed_takes steps = flat_map (λ (made : CallStep ReadView). failed_at made.call.at made.before) steps
 
 -- the fault is right: the cookie of the read's open is held; this is the lowest byte of the range that nobody is left to answer, without the components whose takes failed since that open; and these are the failed calls among them of components that have it
-pub record IsFault (r : ReadView) (steps : List (CallStep ReadView)) (made : CallStep ReadView) (byte : ℕ) (calls : List FailedCall) : Type 0 where
+pub record IsRightFault (r : ReadView) (steps : List (CallStep ReadView)) (made : CallStep ReadView) (byte : ℕ) (calls : List FailedCall) : Type 0 where
   pub reading : Reading
   pub phase : made.call.at ≡ at.Again reading
   pub held : holds reading.opened.file reading.opened.cookie made.before.meta ≡ true
@@ -49,7 +49,7 @@ pub record IsFault (r : ReadView) (steps : List (CallStep ReadView)) (made : Cal
 
 -- the answer, if it is a fault, is a right one
 abbrev pub IsFaulted : ReadView → List (CallStep ReadView) → CallStep ReadView → Reply → Type 0
-IsFaulted r steps made (Fault byte calls) = IsFault r steps made byte calls
+IsFaulted r steps made (Fault byte calls) = IsRightFault r steps made byte calls
 IsFaulted r steps made other = Unit {0}
 
 -- in every run of a read, a fault is right

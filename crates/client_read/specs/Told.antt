@@ -50,7 +50,7 @@ ComeFrom steps c range bytes (Object object call) =
     ((made : CallStep ReadView) × Contains steps made × IsReadBy made object (place_of range.start c.stripe).offset (range.end - range.start) call bytes)
 
 -- the bytes are those of a component among these that is fresh and isn't offline, and the take tells its id and where they come from
-pub record IsRightTake (steps : List (CallStep ReadView)) (components : List Component) (t : Take) (bytes : List ℕ) : Type 0 where
+pub record TellsItsSource (steps : List (CallStep ReadView)) (components : List Component) (t : Take) (bytes : List ℕ) : Type 0 where
   pub component : Component
   pub there : Contains components component
   pub id : t.component ≡ component.id
@@ -93,7 +93,7 @@ pub record IsTold (r : ReadView) (steps : List (CallStep ReadView)) (made : Call
   pub opening : AreSince r steps reading.opened since
   pub tile : Tile (map (λ (t : Take). t.range) takes) r.range.start r.range.end
   pub parts : List (List ℕ)
-  pub right : AllZip (IsRightTake since reading.opened.layout.components) takes parts
+  pub right : AllZip (TellsItsSource since reading.opened.layout.components) takes parts
   pub joined : reply ≡ Bytes (take (size - r.range.start) (concat parts))
 
 -- what is known of the servers before a step: all layouts are valid, and the step may be made there

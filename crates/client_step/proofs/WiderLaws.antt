@@ -3,7 +3,7 @@ use Rattle.std.proofs.Common.{◌≡◌, sym, ap, subst}
 use Rattle.flr_base.specs.declared.reply.Progress.{Progress}
 use Rattle.flr_base.specs.declared.reply.Progress.TheVariants as progress
 use Rattle.call_steps.specs.Servers.{Servers}
-use Rattle.call_steps.specs.Steps.{Outcome, Steps, widen, widened}
+use Rattle.call_steps.specs.Steps.{HasMemory, Outcome, Steps, widen, widened}
 
 module _ {C D : Type 0} (f : C → D) where
   wider : (call : C) (old new : Servers) (came : Progress C) (wanted : Outcome C) → Steps call old came new wanted → Steps (f call) old (widened f came) new (widen f wanted)
@@ -21,3 +21,15 @@ module _ {C D : Type 0} (f : C → D) where
       let given : Steps (f inner) old result new (widen f wanted) = subst (λ (r : Progress D). Steps (f inner) old r new (widen f wanted)) (sym same) (wider inner old new came wanted h) in
       let stepped : Steps (f inner) old result new (step (f inner)) = subst (λ (o : Outcome D). Steps (f inner) old result new o) (sym by) given in
       subst (λ (c : D). Steps c old result new (step c)) (sym is) stepped
+
+  has_memory : (came : Progress C) → HasMemory came → HasMemory (widened f came)
+  has_memory (progress.Going next) h = tt
+  has_memory (progress.Fixed next reply takes) h = tt
+  has_memory progress.Ended h = tt
+  has_memory (progress.Answered reply takes) h = tt
+  has_memory (progress.Blocked back holder) h = tt
+  has_memory (progress.NoMemory back) h = absurd h
+
+  -- where the narrower call's step takes no memory, that of the call takes none
+  pub free_as : (Free : D → Type 0) (call : D) (inner : C) (came : Progress C) (result : Progress D) → call ≡ f inner → result ≡ widened f came → (Free (f inner) → HasMemory came) → Free call → HasMemory result
+  free_as Free call inner came result is same free h = subst (λ (r : Progress D). HasMemory r) (sym same) (has_memory came (free (subst Free is h)))

@@ -1,6 +1,6 @@
 //! The call that a command is.
 
-ghost use Rattle.std.specs.Prelude.{◌≡◌, IfOk};
+ghost use Rattle.std.specs.Prelude.{◌≡◌, ◌≢◌, IfOk, OnErr};
 ghost use Rattle.layout_lease.specs.Clients.{IsClient};
 ghost use Rattle.meta_server.specs.Conditions.{IsCopyOf};
 ghost use Rattle.resync_copy.specs.Copies.{new_copy};
@@ -23,7 +23,8 @@ use std::alloc::Global;
 pub(crate) fn begin(alloc: Global, client: u8, command: &Command) -> Result<Running, NoMemory>
     requires client { IsClient client }
     requires askable { IsAskable command.now }
-    ensures { IfOk result (λ call. call ≡ begun client command.now) }
+    ensures call { IfOk result (λ call. call ≡ begun client command.now) }
+    ensures free { OnErr result (begun client command.now ≢ running.Idle) }
 {
     match command {
         Command::Read {
@@ -59,7 +60,8 @@ pub(crate) fn begin(alloc: Global, client: u8, command: &Command) -> Result<Runn
 fn begin_lfs(alloc: Global, client: u8, command: &LfsCommand) -> Result<Running, NoMemory>
     requires client { IsClient client }
     requires askable { IsLfsAskable command.now }
-    ensures { IfOk result (λ call. call ≡ begun_lfs client command.now) }
+    ensures call { IfOk result (λ call. call ≡ begun_lfs client command.now) }
+    ensures free { OnErr result (begun_lfs client command.now ≢ running.Idle) }
 {
     match command {
         LfsCommand::Resync { name, only } => {

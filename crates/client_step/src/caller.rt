@@ -30,6 +30,7 @@ pub struct Caller {
 
 impl Caller {
     ghost use Rattle.client_step.specs.Callers.{ClientSteps, HasMoved, IsAside};
+    ghost use Rattle.client_step.specs.Free.{CallIsFree, CopiesNothing, HadMemory};
 
     /// A client before its first step.
     pub fn new() -> Caller
@@ -47,7 +48,9 @@ impl Caller {
     }
 
     /// The client with this number makes its next step, at this place. It is one of the call that it
-    /// has under way, or else of its next command, which is this one.
+    /// has under way, or else of its next command, which is this one. What a command asks for is copied at
+    /// the first try to begin it, which takes memory; from then on memory may be wanting only where the
+    /// step of the call takes some.
     pub fn step(
         &mut self,
         alloc: Global,
@@ -63,6 +66,9 @@ impl Caller {
         ensures step { ClientSteps self.old.client (servers meta.old targets.old locks.old) result self.new.client (servers meta.new targets.new locks.new) (client_next number place self.old.client (servers meta.old targets.old locks.old) (Some command.now)) }
         ensures aside { IsAside number command.now self.new.client self.new.aside }
         ensures nothing { HasMoved result → self.new.aside ≡ running.Idle }
+        ensures free { CopiesNothing number command.now self.old.client self.old.aside
+            → CallIsFree (call_now number self.old.client.call command.now) number command.now place (servers meta.old targets.old locks.old)
+            → HadMemory result }
     {
         let begins = is_idle(&self.client.call);
         let first = if begins { place } else { self.client.first };
@@ -134,6 +140,7 @@ impl Caller {
         ensures call { IfOk result (λ call. call ≡ call_now number self.old.client.call command.now) }
         ensures taken { OnOk result (self.new ≡ record { client = record self.old.client { call = running.Idle }; aside = running.Idle }) }
         ensures unchanged { OnErr result (self.new ≡ self.old) }
+        ensures free { OnErr result (¬ CopiesNothing number command.now self.old.client self.old.aside) }
     {
         match mem::replace(&mut self.client.call, Running::Idle) {
             Running::Idle => match mem::replace(&mut self.aside, Running::Idle) {

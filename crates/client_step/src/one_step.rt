@@ -7,7 +7,9 @@ ghost use Rattle.mirror_admin.specs.OneStep.{is_one_step, one_step};
 ghost use Rattle.extent_lock.specs.declared.lock.Lock.{Lock};
 ghost use Rattle.object_target.specs.TargetState.{TargetState};
 ghost use Rattle.call_steps.specs.Servers.{servers};
-ghost use Rattle.call_steps.specs.Steps.{Steps};
+ghost use Rattle.call_steps.specs.Steps.{HasMemory, Steps};
+ghost use Rattle.client_step.specs.Free.{OneStepIsFree};
+ghost use Rattle.meta_server.specs.Outcomes.{MayLackMemory};
 ghost use Rattle.flr_steps.specs.Commands.{answered_by, at_once, begun};
 ghost use Rattle.flr_steps.specs.Conditions.{AtOnceFits, IsAskable};
 ghost use Rattle.flr_steps.specs.declared.client.Running.TheVariants as running;
@@ -34,6 +36,7 @@ pub(crate) fn at_once(
     requires askable { IsAskable command.now }
     requires fits { AtOnceFits command.now meta.old targets.old }
     ensures step { (locks : List Lock) → Steps running.Idle (servers meta.old targets.old locks) result (servers meta.new targets.new locks) (at_once client command.now place (servers meta.old targets.old locks)) }
+    ensures free { (locks : List Lock) → OneStepIsFree client command.now place (servers meta.old targets.old locks) → HasMemory result }
 {
     match command {
         Command::Lfs(command) => administer(alloc, client, command, place, meta),
@@ -64,6 +67,7 @@ fn administer(
     requires room { IsRoom meta.old.next_file }
     requires generations { HasGenerationRoom meta.old }
     ensures step { (targets : List TargetState) (locks : List Lock) → Steps running.Idle (servers meta.old targets locks) result (servers meta.new targets locks) (answered_by (servers meta.old targets locks) (one_step client command.now place meta.old)) }
+    ensures free { ¬ MayLackMemory (one_step client command.now place meta.old) → HasMemory result }
 {
     match admin(alloc, client, command, meta, place) {
         Admin::Answered(reply) => answered(alloc, reply),

@@ -2,7 +2,8 @@
 
 ghost use Rattle.std.specs.Prelude.{◌≡◌};
 ghost use Rattle.call_steps.specs.Servers.{servers};
-ghost use Rattle.call_steps.specs.Steps.{Steps};
+ghost use Rattle.call_steps.specs.Steps.{HasMemory, Steps};
+ghost use Rattle.client_step.specs.Free.{CallIsFree};
 ghost use Rattle.flr_steps.specs.Commands.{begun, step_of};
 ghost use Rattle.flr_steps.specs.Conditions.{CallFits, IsAskable};
 ghost use Rattle.flr_steps.specs.declared.client.Running.TheVariants as running;
@@ -32,6 +33,7 @@ pub(crate) fn step_call(
     requires askable { IsAskable command.now }
     requires fits { CallFits call command.now (servers meta.old targets.old locks.old) }
     ensures step { Steps call (servers meta.old targets.old locks.old) result (servers meta.new targets.new locks.new) (step_of call client command.now place (servers meta.old targets.old locks.old)) }
+    ensures free { CallIsFree call client command.now place (servers meta.old targets.old locks.old) → HasMemory result }
 {
     match call {
         Running::Idle => at_once(alloc, client, command, place, meta, targets),

@@ -8,3 +8,5 @@ pub mod WriteRunLaws
 pub mod CutRunLaws
 pub mod Called
 pub mod DeedLaws
+pub mod PieceWalk
+pub mod Unlisted

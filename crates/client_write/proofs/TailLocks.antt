@@ -1,5 +1,5 @@
 -- The locks of the tails, one after another.
-use Rattle.std.proofs.Common.{◌≡◌, ℕ, zero, suc, ◌+◌, ◌<◌, ◌≢◌, ◌==◌, if◌then◌else◌, Bool, true, false, List, [], ◌∷◌, ◌++◌, length, map, take, drop, get_or, Option, Some, None, Result, Ok, Err, refl, sym, ap, ◌∙◌, append_assoc, add-one, arith}
+use Rattle.std.proofs.Common.{◌≡◌, ℕ, zero, suc, ◌+◌, ◌<◌, ◌≢◌, ◌==◌, if◌then◌else◌, Bool, true, false, List, [], ◌∷◌, ◌++◌, length, map, take, drop, get_or, Option, Some, None, Result, Ok, Err, refl, sym, ap, ◌∙◌, append-nil, append_assoc, add-one, arith}
 use Rattle.std.specs.Prelude.{All, OnErr}
 use Rattle.std.specs.Option.{option_or}
 use Rattle.std.proofs.Math.Seq.{drop-cons}
@@ -8,12 +8,11 @@ use Rattle.std.proofs.lemmas.Bool.{eq-eqb}
 use Rattle.std.proofs.lemmas.List.Elements.{All-cons}
 use Rattle.flr_base.specs.declared.reply.Range.{Range}
 use Rattle.extent_lock.specs.declared.lock.Lock.{Lock}
-use Rattle.extent_lock.specs.declared.extents.LockError.{LockError}
-use Rattle.extent_lock.specs.declared.extents.LockError.TheVariants as lock_error
-use Rattle.extent_lock.specs.Extents.{blocked_by, blocker, locks_but, locks_of}
+use Rattle.extent_lock.specs.Extents.{blocker, locks_but, locks_of}
 use Rattle.extent_lock.proofs.LockLaws.{blocker-own, locks_but-own}
 use Rattle.mirror_select.specs.declared.types.Tail.{Tail}
-use Rattle.client_write.specs.Truncates.{IsFirstBlocked, first_blocker, tail_lock}
+use Rattle.client_write.specs.OwnLocks.{HoldsOwn}
+use Rattle.client_write.specs.Truncates.{first_blocker, tail_lock}
 
 -- the locks of tails are the client's
 pub own_locks : (client : ℕ) (tails : List Tail) → All (λ (lock : Lock). lock.holder ≡ client) (map (tail_lock client) tails)
@@ -22,8 +21,8 @@ own_locks client (t ∷ ts) zero d h = refl
 own_locks client (t ∷ ts) (suc k) d h = own_locks client ts k d (omega (arith, h))
 
 -- own locks don't matter to who is in the way
-pub in_the_way : (client : ℕ) (tails : List Tail) (t : Tail) (held now : List Lock) → now ≡ held ++ map (tail_lock client) tails → blocker now (tail_lock client t) ≡ blocker held (tail_lock client t)
-in_the_way client tails t held now e = ap (λ (l : List Lock). blocker l (tail_lock client t)) e ∙ blocker-own held (map (tail_lock client) tails) (tail_lock client t) (own_locks client tails)
+pub in_the_way : (client : ℕ) (t : Tail) (held now : List Lock) → HoldsOwn client held now → blocker now (tail_lock client t) ≡ blocker held (tail_lock client t)
+in_the_way client t held now own = ap (λ (l : List Lock). blocker l (tail_lock client t)) own.2 ∙ blocker-own held own.0 (tail_lock client t) own.1
 
 -- the first of the locks from a place on
 pub first_from : (client : ℕ) (tails : List Tail) (i : ℕ) (t : Tail) (held : List Lock) → i < length tails → get_or tails i t ≡ t →
@@ -55,30 +54,39 @@ pub others_left : (client : ℕ) (held own : List Lock) → locks_of client held
 others_left client held own none all = locks_but-own held own client (others_hold client held none) all
 
 -- who is in the way of the lock of a tail, is in the way of the first lock from it on
-at_tail : (client : ℕ) (tails : List Tail) (i : ℕ) (t : Tail) (held now : List Lock) (told : Option (ℕ × Range)) → i < length tails → get_or tails i t ≡ t → now ≡ held ++ map (tail_lock client) (take i tails) →
+at_tail : (client : ℕ) (tails : List Tail) (i : ℕ) (t : Tail) (held now : List Lock) (told : Option (ℕ × Range)) → i < length tails → get_or tails i t ≡ t → HoldsOwn client held now →
     first_blocker (map (tail_lock client) tails) held ≡ first_blocker (map (tail_lock client) (drop i tails)) held → told ≡ blocker now (tail_lock client t) →
     first_blocker (map (tail_lock client) tails) held ≡ option_or told (first_blocker (map (tail_lock client) (drop (i + 1) tails)) held)
-at_tail client tails i t held now told h e granted first is =
+at_tail client tails i t held now told h e own first is =
     first ∙ first_from client tails i t held h e
-    ∙ ap (λ (o : Option (ℕ × Range)). option_or o (first_blocker (map (tail_lock client) (drop (i + 1) tails)) held)) (sym (is ∙ in_the_way client (take i tails) t held now granted))
+    ∙ ap (λ (o : Option (ℕ × Range)). option_or o (first_blocker (map (tail_lock client) (drop (i + 1) tails)) held)) (sym (is ∙ in_the_way client t held now own))
 
--- a tail's lock is granted: the first that isn't stands behind it
-pub passed : (client : ℕ) (tails : List Tail) (i : ℕ) (t : Tail) (held now : List Lock) → i < length tails → get_or tails i t ≡ t → now ≡ held ++ map (tail_lock client) (take i tails) →
+-- nobody is in the way of a tail's lock: the first that somebody is in the way of stands behind it
+pub passed : (client : ℕ) (tails : List Tail) (i : ℕ) (t : Tail) (held now : List Lock) → i < length tails → get_or tails i t ≡ t → HoldsOwn client held now →
     first_blocker (map (tail_lock client) tails) held ≡ first_blocker (map (tail_lock client) (drop i tails)) held → None ≡ blocker now (tail_lock client t) →
     first_blocker (map (tail_lock client) tails) held ≡ first_blocker (map (tail_lock client) (drop (i + 1) tails)) held
-passed client tails i t held now h e granted first is = at_tail client tails i t held now None h e granted first is
+passed client tails i t held now h e own first is = at_tail client tails i t held now None h e own first is
 
--- a tail's lock isn't granted: it is the first
-pub stopped : (client : ℕ) (tails : List Tail) (i : ℕ) (t : Tail) (held now : List Lock) (error : LockError) → i < length tails → get_or tails i t ≡ t → now ≡ held ++ map (tail_lock client) (take i tails) →
-    first_blocker (map (tail_lock client) tails) held ≡ first_blocker (map (tail_lock client) (drop i tails)) held → blocked_by {U = Unit {0}} (Err error) ≡ blocker now (tail_lock client t) →
-    IsFirstBlocked (first_blocker (map (tail_lock client) tails) held) (Err error)
-stopped client tails i t held now (lock_error.Blocked holder range) h e granted first is = at_tail client tails i t held now (Some (holder, range)) h e granted first is
-stopped client tails i t held now lock_error.NoMemory h e granted first is = tt
+-- somebody is in the way of a tail's lock: it is the first
+pub stopped : (client : ℕ) (tails : List Tail) (i : ℕ) (t : Tail) (held now : List Lock) (told : ℕ × Range) → i < length tails → get_or tails i t ≡ t → HoldsOwn client held now →
+    first_blocker (map (tail_lock client) tails) held ≡ first_blocker (map (tail_lock client) (drop i tails)) held → Some told ≡ blocker now (tail_lock client t) →
+    first_blocker (map (tail_lock client) tails) held ≡ Some told
+stopped client tails i t held now told h e own first is = at_tail client tails i t held now (Some told) h e own first is
 
--- what is held is what others hold, and the locks of the first tails
-pub with_own : (client : ℕ) (tails : List Tail) (i : ℕ) (held now : List Lock) → now ≡ held ++ map (tail_lock client) (take i tails) →
-    (own : List Lock) × All (λ (lock : Lock). lock.holder ≡ client) own × (now ≡ held ++ own)
-with_own client tails i held now granted = (map (tail_lock client) (take i tails), own_locks client (take i tails), granted)
+-- one more lock of the client
+pub one_more : (client : ℕ) (t : Tail) (held now : List Lock) → HoldsOwn client held now → HoldsOwn client held (now ++ tail_lock client t ∷ [])
+one_more client t held now own =
+    (own.0 ++ tail_lock client t ∷ [], all_more own.0 own.1, ap (λ (l : List Lock). l ++ tail_lock client t ∷ []) own.2 ∙ append_assoc held own.0 (tail_lock client t ∷ []))
+  where
+    all_more : (own : List Lock) → All (λ (lock : Lock). lock.holder ≡ client) own → All (λ (lock : Lock). lock.holder ≡ client) (own ++ tail_lock client t ∷ [])
+    all_more [] all zero d h = refl
+    all_more [] all (suc k) d h = absurd (omega (arith, h))
+    all_more (l ∷ ls) all zero d h = all 0 d (omega arith)
+    all_more (l ∷ ls) all (suc k) d h = all_more ls (λ j x lt. all (suc j) x (omega (arith, lt))) k d (omega (arith, h))
+
+-- nothing more is held
+pub none_held : (client : ℕ) (held : List Lock) → HoldsOwn client held held
+none_held client held = ([], λ k d h. absurd (omega (arith, h)), sym (append-nil held))
 
 -- what holds whatever the error is
 pub whatever_error : {T E P : Type 0} (r : Result T E) → P → OnErr r P

@@ -1,10 +1,11 @@
 -- What a truncate says of itself, and what it wants of the servers.
-use Rattle.std.specs.Prelude.{◌≡◌, ℕ, ◌^◌, ◌<◌, ◌≤◌, length}
+use Rattle.std.specs.Prelude.{◌≡◌, ℕ, ◌^◌, ◌<◌, ◌≤◌, length, is_some, true}
 use Rattle.composite_layout.specs.Layouts.{IsValid}
 use Rattle.layout_lease.specs.Clients.{IsClient}
 use Rattle.mirror_select.specs.Tails.{tails_of}
 use Rattle.meta_server.specs.Conditions.{MayShare, HasGenerationRoom, HasObjectRoom}
-use Rattle.meta_server.specs.Opening.{cut_opens, most_bytes}
+use Rattle.flr_base.specs.Limits.{most_bytes}
+use Rattle.meta_server.specs.Opening.{cut_opens}
 use Rattle.call_steps.specs.Servers.{Servers, CanCall, AreThere, HoldsNone}
 use Rattle.client_write.specs.declared.phase.CutAt.{CutAt}
 use Rattle.client_write.specs.declared.phase.Sent.{Sent}
@@ -13,6 +14,7 @@ use Rattle.client_write.specs.declared.phase.CutAt.TheVariants as at
 use Rattle.client_write.specs.Views.{CuttingView}
 use Rattle.client_write.specs.Calls.{TruncateView}
 use Rattle.client_write.specs.Refusals.{IsPlainRefusal}
+use Rattle.client_write.specs.Truncates.{first_blocker, locks_for}
 
 -- the tails are those of the layout from the size on, which a file may have
 pub record HasTails (size : ℕ) (x : CuttingView) : Type 0 where
@@ -55,10 +57,10 @@ pub record TruncateFits (t : TruncateView) (s : Servers) : Type 0 where
   pub calls : CanCall s.targets
   pub phase : CutFitsAt t.at t s
 
--- the steps that take no memory: an open that is refused with an answer that names no file, commit, and those that only give locks back
+-- the steps that take no memory: an open that is refused with an answer that names no file, locks that a holder is in the way of, commit, and those that only give locks back
 abbrev pub CutTakesNoMemory : CutAt → TruncateView → ℕ → Servers → Type 0
 CutTakesNoMemory at.Open t place s = IsPlainRefusal (cut_opens t.client t.name t.size place s.meta)
-CutTakesNoMemory (at.Lock x) t place s = ⊥
+CutTakesNoMemory (at.Lock x) t place s = is_some (first_blocker (locks_for t x) s.locks) ≡ true
 CutTakesNoMemory (at.Punch x next) t place s = ⊥
 CutTakesNoMemory (at.Commit x came) t place s = Unit {0}
 CutTakesNoMemory at.UnlockAgain t place s = Unit {0}

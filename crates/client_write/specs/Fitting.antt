@@ -1,12 +1,15 @@
 -- What a write says of itself, and what it wants of the servers.
-use Rattle.std.specs.Prelude.{◌≡◌, ℕ, ◌+◌, ◌^◌, ◌<◌, ◌≤◌, length, true}
+use Rattle.std.specs.Prelude.{◌≡◌, ℕ, ◌+◌, ◌^◌, ◌<◌, ◌≤◌, length, is_some, true}
 use Rattle.flr_base.specs.declared.reply.Range.{Range}
 use Rattle.composite_layout.specs.Choices.{is_ready}
 use Rattle.composite_layout.specs.Layouts.{IsValid}
+use Rattle.extent_lock.specs.Extents.{blocker}
 use Rattle.layout_lease.specs.Clients.{IsClient}
 use Rattle.mirror_select.specs.Pieces.{write_pieces_of}
 use Rattle.meta_server.specs.Conditions.{MayShare, HasGenerationRoom, HasObjectRoom}
-use Rattle.meta_server.specs.Opening.{most_bytes, write_opens}
+use Rattle.flr_base.specs.Limits.{most_bytes}
+use Rattle.meta_server.specs.Opening.{write_opens}
+use Rattle.call_steps.specs.Pieces.{piece_at}
 use Rattle.call_steps.specs.Servers.{Servers, CanCall, AreThere}
 use Rattle.client_write.specs.declared.phase.Sent.{Sent}
 use Rattle.client_write.specs.declared.phase.Sent.TheVariants as sent
@@ -15,7 +18,7 @@ use Rattle.client_write.specs.declared.phase.WriteAt.TheVariants as at
 use Rattle.client_write.specs.Views.{WritingView}
 use Rattle.client_write.specs.Calls.{WriteView}
 use Rattle.client_write.specs.Refusals.{IsPlainRefusal}
-use Rattle.client_write.specs.Writes.{end_of, range_of}
+use Rattle.client_write.specs.Writes.{end_of, lock_for, range_of}
 
 -- the pieces are those of the range, for which the layout is ready, and which ends where a file may
 pub record HasPieces (range : Range) (x : WritingView) : Type 0 where
@@ -65,10 +68,10 @@ pub record WriteFits (w : WriteView) (s : Servers) : Type 0 where
   pub calls : CanCall s.targets
   pub phase : FitsAt w.at w s
 
--- the steps that take no memory: an open that is refused with an answer that names no file, commit, and those that only give locks back
+-- the steps that take no memory: an open that is refused with an answer that names no file, a lock that a holder is in the way of, commit, and those that only give locks back
 abbrev pub TakesNoMemory : WriteAt → WriteView → ℕ → Servers → Type 0
 TakesNoMemory at.Open w place s = IsPlainRefusal (write_opens w.client w.name (range_of w) place s.meta)
-TakesNoMemory (at.Lock x next) w place s = ⊥
+TakesNoMemory (at.Lock x next) w place s = is_some (blocker s.locks (lock_for w (piece_at x.pieces next))) ≡ true
 TakesNoMemory (at.Send x next) w place s = ⊥
 TakesNoMemory (at.Commit x end came) w place s = Unit {0}
 TakesNoMemory at.UnlockAgain w place s = Unit {0}

@@ -10,3 +10,5 @@ pub mod Left
 pub mod Attempts
 pub mod WriteRuns
 pub mod CutRuns
+pub mod Cuts
+pub mod OwnLocks

@@ -5,7 +5,7 @@ use Rattle.flr_base.specs.declared.reply.Range.{Range}
 use Rattle.mirror_select.specs.declared.types.Piece.{Piece}
 use Rattle.object_target.specs.declared.call.CallAnswer.{CallAnswer}
 use Rattle.object_target.specs.declared.call.CallAnswer.TheVariants as answer
-use Rattle.meta_server.specs.Opening.{most_bytes}
+use Rattle.flr_base.specs.Limits.{most_bytes}
 use Rattle.call_steps.specs.Pieces.{IsWithin}
 use Rattle.client_write.specs.declared.phase.Came.{Came}
 use Rattle.client_write.specs.declared.phase.Came.TheVariants as came

@@ -69,11 +69,11 @@ abbrev pub first_blocker : List Lock → List Lock → Option (ℕ × Range)
 first_blocker [] held = None
 first_blocker (lock ∷ locks) held = option_or (blocker held lock) (first_blocker locks held)
 
--- the answer to who asks for the locks is that this one is in the way, if anybody is, or that memory ran out
+-- the answer to who asks for the locks is that this one is in the way, if anybody is; memory runs out only where nobody is
 abbrev pub IsFirstBlocked : Option (ℕ × Range) → Result (Unit {0}) LockError → Type 0
 IsFirstBlocked wanted (Ok granted) = wanted ≡ None
 IsFirstBlocked wanted (Err (lock_error.Blocked holder range)) = wanted ≡ Some (holder, range)
-IsFirstBlocked wanted (Err lock_error.NoMemory) = Unit {0}
+IsFirstBlocked wanted (Err lock_error.NoMemory) = wanted ≡ None
 
 -- what comes next with the tails up to this one cut: the punch of this one; behind the last commit
 abbrev pub punches_from : CuttingView → ℕ → CutAt

@@ -1,8 +1,12 @@
-ghost use Rattle.std.specs.Prelude.{◌≡◌, ◌+◌, ◌^◌, ◌<◌, true, IfOk};
+ghost use Rattle.std.specs.Prelude.{◌≡◌, ◌+◌, ◌^◌, ◌<◌, true, map, option_map, IfOk};
 ghost use Rattle.composite_layout.specs.Choices.{is_ready};
 ghost use Rattle.composite_layout.specs.Layouts.{eof};
 ghost use Rattle.mirror_select.specs.Tails.{tails_of};
+ghost use Rattle.call_steps.specs.Servers.{HoldsNone};
+ghost use Rattle.client_write.specs.Truncates.{first_blocker, tail_lock};
 
+use crate::tails::in_the_way;
+use extent_lock::ExtentLocks;
 use flr_base::NoMemory;
 use meta_server::Opened;
 use mirror_select::{Tails, tails};
@@ -67,6 +71,16 @@ impl Cutting {
         ensures same { self.new ≡ self.old }
     {
         self.tails = Some(tails);
+    }
+
+    /// Who is in the way of the first of the tails' locks that somebody is in the way of. It takes no
+    /// memory, and the locks stay as they were.
+    pub(crate) fn in_the_way(&self, client: u8, locks: &mut ExtentLocks) -> Option<u8>
+        requires none { HoldsNone client locks.old }
+        ensures first { result ≡ option_map (λ told. told.0) (first_blocker (map (tail_lock client) self.now.tails) locks.old) }
+        ensures unchanged { locks.new ≡ locks.old }
+    {
+        in_the_way(client, &self.opened.layout, self.size, locks)
     }
 
     /// What the open gave.

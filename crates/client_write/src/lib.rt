@@ -5,6 +5,8 @@ mod asking;
 mod cutting;
 mod laws;
 mod phase;
+mod pieces;
+mod tails;
 mod truncate;
 mod write;
 mod writing;

@@ -1,4 +1,4 @@
-ghost use Rattle.std.specs.Prelude.{◌≡◌, ◌↔◌, IsTrue, ◌+◌, ◌^◌, ◌<◌, ◌≤◌, ◌++◌, ℕ, List, All, length, map, nat_lt, slice_set, IfOk, OnOk, OnErr};
+ghost use Rattle.std.specs.Prelude.{◌≡◌, ◌↔◌, IsTrue, ◌+◌, ◌^◌, ◌<◌, ◌≤◌, ◌++◌, ℕ, true, List, All, length, map, is_some, nat_lt, slice_set, IfOk, OnOk, OnErr};
 ghost use Rattle.layout_lease.specs.Clients.{IsClient};
 ghost use Rattle.extent_lock.specs.declared.lock.Lock.{Lock};
 ghost use Rattle.object_target.specs.Calls.{after_punch, punch_answer};
@@ -11,7 +11,8 @@ ghost use Rattle.client_write.specs.Parts.{came_of};
 ghost use Rattle.call_steps.specs.Steps.{HasMemory, Steps};
 ghost use Rattle.client_write.specs.CutFitting.{CutFitsAt, CutTakesNoMemory, HasTails, IsSoundCutAt, IsSoundTruncate, TruncateFits};
 ghost use Rattle.client_write.specs.Refusals.{IsPlainRefusal};
-ghost use Rattle.client_write.specs.Truncates.{IsFirstBlocked, after_punches, commit_cut_step, first_blocker, lock_tails_step, new_truncate, punch_step, tail_lock, truncate_at, truncate_by, truncate_step};
+ghost use Rattle.client_write.specs.OwnLocks.{HoldsOwn};
+ghost use Rattle.client_write.specs.Truncates.{IsFirstBlocked, after_punches, commit_cut_step, first_blocker, lock_tails_step, locks_for, new_truncate, punch_step, tail_lock, truncate_at, truncate_by, truncate_step};
 ghost use Rattle.client_write.specs.declared.phase.CutAt.TheVariants as at;
 
 use crate::asking::has_room;
@@ -21,7 +22,7 @@ use call_steps::{are_there, can_call, holds_none};
 use extent_lock::{ExtentLocks, LockError, Mode};
 use flr_base::{EOF, FailedCall, Name, NoMemory, Progress, Range, Reply, Takes};
 use meta_server::{Gone, Meta, MetaStop, Opened};
-use mirror_select::Tail;
+use mirror_select::{Tail, Tails};
 use object_target::{TargetError, Targets};
 use std::alloc::Global;
 use std::marker::Model;
@@ -73,7 +74,8 @@ impl TruncateCall {
 
     /// Makes the next step, at this place. A step that is blocked, or for which memory runs out,
     /// hands the call back, and leaves everything as it was. An open that is refused with an answer
-    /// that names no file, commit, and the steps that only give locks back take no memory.
+    /// that names no file, locks that a holder is in the way of, commit, and the steps that only give
+    /// locks back take no memory.
     pub fn step(
         self,
         meta: &mut Meta,
@@ -158,16 +160,34 @@ impl CutAsked {
         }
     }
 
-    /// Asks for the extent locks of all tails.
+    /// Asks for the extent locks of all tails, which are listed first.
     fn lock(self, cutting: Cutting, locks: &mut ExtentLocks) -> Progress<TruncateCall>
         requires sound { IsSoundTruncate (truncate_by self (at.Lock cutting)) }
         requires none { HoldsNone self.client locks.old }
         ensures step { (meta : MetaView) (targets : List TargetState) → Steps (truncate_by self (at.Lock cutting)) (servers meta targets locks.old) result (servers meta targets locks.new) (lock_tails_step (truncate_by self (at.Lock cutting)) (servers meta targets locks.old) cutting) }
+        ensures free { is_some (first_blocker (locks_for (truncate_by self (at.Lock cutting)) cutting) locks.old) ≡ true → HasMemory result }
     {
         let mut cutting = cutting;
-        let Ok(tails) = cutting.take(self.alloc) else {
-            return Progress::NoMemory(self.call(CutAt::Lock { cutting }));
-        };
+        match cutting.take(self.alloc) {
+            Ok(tails) => self.lock_listed(cutting, tails, locks),
+            Err(NoMemory) => self.lock_unlisted(cutting, locks),
+        }
+    }
+
+    /// Asks for the extent locks of these tails, which are all, and puts them back.
+    fn lock_listed(
+        self,
+        cutting: Cutting,
+        tails: Tails,
+        locks: &mut ExtentLocks,
+    ) -> Progress<TruncateCall>
+        requires sound { IsSoundTruncate (truncate_by self (at.Lock cutting)) }
+        requires own { tails ≡ cutting.tails }
+        requires none { HoldsNone self.client locks.old }
+        ensures step { (meta : MetaView) (targets : List TargetState) → Steps (truncate_by self (at.Lock cutting)) (servers meta targets locks.old) result (servers meta targets locks.new) (lock_tails_step (truncate_by self (at.Lock cutting)) (servers meta targets locks.old) cutting) }
+        ensures free { is_some (first_blocker (locks_for (truncate_by self (at.Lock cutting)) cutting) locks.old) ≡ true → HasMemory result }
+    {
+        let mut cutting = cutting;
         let result = lock_tails(self.client, tails.as_slice(), locks);
         let is_empty = tails.is_empty();
         cutting.put(tails);
@@ -182,6 +202,22 @@ impl CutAsked {
                 holder,
             },
             Err(LockError::NoMemory) => Progress::NoMemory(self.call(CutAt::Lock { cutting })),
+        }
+    }
+
+    /// There is no memory to list the tails in, so no lock can be granted. Somebody may be in the way.
+    fn lock_unlisted(self, cutting: Cutting, locks: &mut ExtentLocks) -> Progress<TruncateCall>
+        requires sound { IsSoundTruncate (truncate_by self (at.Lock cutting)) }
+        requires none { HoldsNone self.client locks.old }
+        ensures step { (meta : MetaView) (targets : List TargetState) → Steps (truncate_by self (at.Lock cutting)) (servers meta targets locks.old) result (servers meta targets locks.new) (lock_tails_step (truncate_by self (at.Lock cutting)) (servers meta targets locks.old) cutting) }
+        ensures free { is_some (first_blocker (locks_for (truncate_by self (at.Lock cutting)) cutting) locks.old) ≡ true → HasMemory result }
+    {
+        match cutting.in_the_way(self.client, locks) {
+            Some(holder) => Progress::Blocked {
+                call: self.call(CutAt::Lock { cutting }),
+                holder,
+            },
+            None => Progress::NoMemory(self.call(CutAt::Lock { cutting })),
         }
     }
 
@@ -305,7 +341,8 @@ fn punch_tail(tail: Tail, version: u32, targets: &mut Targets) -> Result<Came, N
     }
 }
 
-/// Asks for the locks of all tails. Where one isn't granted, none is.
+/// Asks for the locks of all tails. Where one isn't granted, none is. Want of memory is no answer where
+/// somebody is in the way of one.
 fn lock_tails(client: u8, tails: &[Tail], locks: &mut ExtentLocks) -> Result<(), LockError>
     requires none { HoldsNone client locks.old }
     ensures granted { OnOk result (locks.new ≡ locks.old ++ map (tail_lock client) tails.now) }
@@ -319,18 +356,29 @@ fn lock_tails(client: u8, tails: &[Tail], locks: &mut ExtentLocks) -> Result<(),
     result
 }
 
-/// Asks for the locks of the tails one after another, up to the first that isn't granted.
+/// Asks for the locks of the tails one after another, up to the first that somebody is in the way of.
+/// Where memory runs out for one, the others are asked for all the same.
 fn lock_each(client: u8, tails: &[Tail], locks: &mut ExtentLocks) -> Result<(), LockError>
     ensures granted { OnOk result (locks.new ≡ locks.old ++ map (tail_lock client) tails.now) }
-    ensures some { OnErr result ((own : List Lock) × All (λ lock. lock.holder ≡ client) own × (locks.new ≡ locks.old ++ own)) }
+    ensures own { HoldsOwn client locks.old locks.new }
     ensures blocked { IsFirstBlocked (first_blocker (map (tail_lock client) tails.now) locks.old) result }
 {
+    let mut lacks = false;
     for tail in tails {
         let range = Range {
             start: tail.offset,
             end: EOF,
         };
-        locks.try_lock(client, tail.object, range, Mode::PW)?;
+        match locks.try_lock(client, tail.object, range, Mode::PW) {
+            Ok(()) => {}
+            Err(LockError::NoMemory) => lacks = true,
+            Err(LockError::Blocked { holder, range }) => {
+                return Err(LockError::Blocked { holder, range });
+            }
+        }
+    }
+    if lacks {
+        return Err(LockError::NoMemory);
     }
     Ok(())
 }

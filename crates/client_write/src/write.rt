@@ -78,7 +78,8 @@ impl WriteCall {
 
     /// Makes the next step, at this place. A step that is blocked, or for which memory runs out,
     /// hands the call back, and leaves everything as it was. An open that is refused with an answer
-    /// that names no file, commit, and the steps that only give locks back take no memory.
+    /// that names no file, a lock that a holder is in the way of, commit, and the steps that only give
+    /// locks back take no memory.
     pub fn step(
         self,
         meta: &mut Meta,
@@ -181,14 +182,9 @@ impl Asked {
     fn lock(self, writing: Writing, next: usize, locks: &mut ExtentLocks) -> Progress<WriteCall>
         requires sound { IsSoundWrite (write_by self (at.Lock writing next)) }
         ensures step { (meta : MetaView) (targets : List TargetState) → Steps (write_by self (at.Lock writing next)) (servers meta targets locks.old) result (servers meta targets locks.new) (lock_step (write_by self (at.Lock writing next)) (servers meta targets locks.old) writing next) }
+        ensures free { is_some (blocker locks.old (lock_for (write_by self (at.Lock writing next)) (piece_at writing.pieces next))) ≡ true → HasMemory result }
     {
-        let mut writing = writing;
-        let Ok(pieces) = writing.take(self.alloc) else {
-            return Progress::NoMemory(self.call(WriteAt::Lock { writing, next }));
-        };
-        let piece = pieces.as_slice()[next];
-        let more = next + 1 < pieces.len();
-        writing.put(pieces);
+        let (piece, more) = writing.piece(next);
         match self.lock_piece(piece, locks) {
             Ok(()) if more => Progress::Going(self.call(WriteAt::Lock {
                 writing,
@@ -232,13 +228,7 @@ impl Asked {
         requires there { AreThere targets.old writing.opened.layout.components }
         ensures step { (locks : List Lock) → Steps (write_by self (at.Send writing next)) (servers meta.now targets.old locks) result (servers meta.now targets.new locks) (send_step (write_by self (at.Send writing next)) (servers meta.now targets.old locks) writing next) }
     {
-        let mut writing = writing;
-        let Ok(pieces) = writing.take(self.alloc) else {
-            return Progress::NoMemory(self.call(WriteAt::Send { writing, next }));
-        };
-        let piece = pieces.as_slice()[next];
-        let more = next + 1 < pieces.len();
-        writing.put(pieces);
+        let (piece, more) = writing.piece(next);
         let version = writing.opened().layout.generation();
         let Ok(came) = self.send_piece(piece, version, targets) else {
             return Progress::NoMemory(self.call(WriteAt::Send { writing, next }));

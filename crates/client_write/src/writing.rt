@@ -1,29 +1,30 @@
-ghost use Rattle.std.specs.Prelude.{◌≡◌, ◌≤◌, true, IfOk};
+ghost use Rattle.std.specs.Prelude.{◌≡◌, ◌+◌, ◌^◌, ◌<◌, ◌≤◌, nat_lt, true, length};
 ghost use Rattle.composite_layout.specs.Choices.{is_ready};
 ghost use Rattle.mirror_select.specs.Pieces.{write_pieces_of};
-ghost use Rattle.meta_server.specs.Opening.{most_bytes};
+ghost use Rattle.flr_base.specs.Limits.{most_bytes};
+ghost use Rattle.call_steps.specs.Pieces.{piece_at};
 
-use flr_base::{NoMemory, Range};
+use crate::pieces::piece_of;
+use composite_layout::ready_mirror;
+use flr_base::Range;
 use meta_server::Opened;
-use mirror_select::{Pieces, write_pieces};
-use std::alloc::Global;
+use mirror_select::Piece;
 use std::marker::Model;
 
-/// What a write has since it opened its file, whose layout is ready for its range. The range is cut
-/// into its pieces when the first of them is looked at: at the open no memory could be wanting any
-/// more.
+/// What a write has since it opened its file, whose layout is ready for its range, and the mirror that
+/// takes it. The range is cut into its pieces one by one: no list of them is kept, so that a step which
+/// is blocked takes no memory for one.
 #[derive(Drop)]
 pub struct Writing {
     opened: Opened,
     range: Range,
-    pieces: Option<Pieces>,
+    mirror: u16,
 }
 
 impl Model for Writing {
-    ghost use Rattle.std.specs.Prelude.{◌≡◌, ◌^◌, ◌<◌, true};
-    ghost use Rattle.std.specs.Option.{ForSome};
+    ghost use Rattle.std.specs.Prelude.{◌≡◌, ◌^◌, ◌<◌, true, Some};
     ghost use Rattle.composite_layout.specs.Choices.{is_ready};
-    ghost use Rattle.mirror_select.specs.Pieces.{write_pieces_of};
+    ghost use Rattle.mirror_select.specs.Pieces.{ready_mirror, write_pieces_of};
     ghost use Rattle.client_write.specs.Views.{WritingView};
 
     ghost Value = { WritingView };
@@ -31,7 +32,7 @@ impl Model for Writing {
     ghost view = { λ w. record { opened = w.opened; pieces = write_pieces_of w.opened.layout w.range } };
 
     ghost invariant = { λ w. (is_ready w.opened.layout w.range ≡ true) × (w.range.end < 2 ^ 40)
-        × ForSome w.pieces (λ pieces. pieces ≡ write_pieces_of w.opened.layout w.range) };
+        × (ready_mirror w.opened.layout w.range ≡ Some w.mirror) };
 }
 
 impl Writing {
@@ -45,31 +46,24 @@ impl Writing {
         ensures pieces { result.pieces ≡ write_pieces_of opened.layout range }
         ensures has { HasPieces range result }
     {
-        let _components = opened.layout.components();
+        let Some(mirror) = ready_mirror(opened.layout.components(), range) else {
+            unreachable!()
+        };
         Writing {
             opened,
             range,
-            pieces: None,
+            mirror,
         }
     }
 
-    /// The pieces, to be put back.
-    pub(crate) fn take(&mut self, alloc: Global) -> Result<Pieces, NoMemory>
-        ensures same { self.new ≡ self.old }
-        ensures pieces { IfOk result (λ pieces. pieces ≡ self.old.pieces) }
+    /// The piece at this place, and whether one stands behind it.
+    pub(crate) fn piece(&self, place: usize) -> (Piece, bool)
+        requires there { place < length self.now.pieces }
+        ensures piece { result.0 ≡ piece_at self.now.pieces place }
+        ensures more { result.1 ≡ nat_lt (place + 1) (length self.now.pieces) }
+        ensures few { place < 2 ^ 40 }
     {
-        match self.pieces.take() {
-            Some(pieces) => Ok(pieces),
-            None => write_pieces(alloc, &self.opened.layout, self.range),
-        }
-    }
-
-    /// Puts the pieces back.
-    pub(crate) fn put(&mut self, pieces: Pieces)
-        requires own { pieces ≡ self.old.pieces }
-        ensures same { self.new ≡ self.old }
-    {
-        self.pieces = Some(pieces);
+        piece_of(&self.opened.layout, self.mirror, self.range, place)
     }
 
     /// What the open gave.
@@ -86,7 +80,7 @@ impl Writing {
         let Writing {
             opened,
             range: _,
-            pieces: _,
+            mirror: _,
         } = self;
         opened
     }

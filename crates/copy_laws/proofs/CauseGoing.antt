@@ -21,7 +21,7 @@ use Rattle.resync_copy.specs.declared.phase.CopyStage.TheVariants as stage
 use Rattle.resync_copy.specs.Calls.{CopyView}
 use Rattle.resync_copy.specs.Chunks.{chunk_of, chunk_start, chunks_below, chunks_between, first_solid, is_hole}
 use Rattle.resync_copy.specs.Copies.{chunks_from, clears, copies_chunks, copies_each, copies_from, copies_solid, end_of, fences_from, leaves_at, no_call, resets_at, resets_from, settles_from, takes_from}
-use Rattle.resync_copy.specs.Fitting.{IsDestination}
+use Rattle.resync_copy.specs.Fitting.{HasItsObjects}
 use Rattle.resync_copy.specs.Parts.{all_left, destination_at, extent_with, is_kept, is_open, left_at, left_if, lefts_of}
 use Rattle.resync_copy.specs.Views.{CopyingView, fences_of, resets_of, with_destinations}
 use Rattle.resync_copy.proofs.PartLaws.{with_id_in}
@@ -98,14 +98,14 @@ have_less c steps x ds f call less long are new h = record {
 
 -- a chunk of a destination that nobody can answer has a take that failed
 module _ (c : CopyView) (steps : List (CallStep CopyView)) (x : CopyingView) (place : ℕ) (failed : List ℕ) (last : Option FailedCall) (number : ℕ) (valid : IsValid x.side.layout)
-    (each : AllByRecursion (IsDestination x.side.layout.components) x.ids) (k : IsCauseCopying c steps x place failed last number) where
+    (each : AllByRecursion (HasItsObjects x.side.layout.components) x.ids) (k : IsCauseCopying c steps x place failed last number) where
   -- where no take failed, each chunk has a source
   has_source : (size j : ℕ) → number ≤ j → chunk_start j < end_of size (destination_at x.destinations place) → last ≡ None → chosen x.side.layout.components failed (chunk_start j) ≡ None → ⊥
   has_source size j low below none nobody =
       let cs : List Component = x.side.layout.components in
       let frame = frame_at cs x.ids x.destinations k.have.begun.same place k.there in
       let i = get_there x.ids place 0 frame.there in
-      let d : IsDestination cs (slice_index x.ids place) = every_in (IsDestination cs) x.ids (get_or x.ids place 0) each i in
+      let d : HasItsObjects cs (slice_index x.ids place) = every_in (HasItsObjects cs) x.ids (get_or x.ids place 0) each i in
       let extent : (destination_at x.destinations place).extent ≡ d.0.extent = frame.extent ∙ extent_of cs (slice_index x.ids place) d.0 d.1 in
       let good = (are_good x.side.layout valid).each d.0 (with_id_in cs (slice_index x.ids place) d.0 d.1) in
       let first : chunk_of d.0.extent.start ≤ number = subst (λ (r : Range). chunk_of r.start ≤ number) extent k.low in
@@ -128,7 +128,7 @@ module _ (c : CopyView) (steps : List (CallStep CopyView)) (x : CopyingView) (pl
           subst (λ (q : ℕ). IsCause q (destination_at x.destinations q).component (destination_at x.destinations q).extent steps call) same (LastTake h.0 h.1 h.2 h.3 h.4 h.5)
 
 pub cause_chunks : (c : CopyView) (steps : List (CallStep CopyView)) (x : CopyingView) (size place : ℕ) (failed : List ℕ) (last : Option FailedCall) (number : ℕ) (others : CopyingView → CopyStage)
-    → IsValid x.side.layout → AllByRecursion (IsDestination x.side.layout.components) x.ids → IsCauseCopying c steps x place failed last number
+    → IsValid x.side.layout → AllByRecursion (HasItsObjects x.side.layout.components) x.ids → IsCauseCopying c steps x place failed last number
     → (IsCauseReady c steps x (place + 1) → CauseStage c steps (others x))
     → ((call : FailedCall) → IsCauseReady c steps (leaves_at x place call) (place + 1) → CauseStage c steps (others (leaves_at x place call)))
     → CauseStage c steps (copies_chunks size place failed last others x (chunks_between number (end_of size (destination_at x.destinations place))))
@@ -174,7 +174,7 @@ lefts_hold c steps x h l has =
           (subst (λ (r : Range). IsCause at.0 (destination_at x.destinations at.0).component r steps l.call) (frame.extent ∙ ap (extent_with x.side.layout.components) (sym id)) (h.causes at.0 lt l.call at.1.left));
     }
 
-pub cause_each : (c : CopyView) (steps : List (CallStep CopyView)) (size : ℕ) (ds : List Destination) (place : ℕ) (x : CopyingView) → ds ≡ drop place x.destinations → IsValid x.side.layout → AllByRecursion (IsDestination x.side.layout.components) x.ids
+pub cause_each : (c : CopyView) (steps : List (CallStep CopyView)) (size : ℕ) (ds : List Destination) (place : ℕ) (x : CopyingView) → ds ≡ drop place x.destinations → IsValid x.side.layout → AllByRecursion (HasItsObjects x.side.layout.components) x.ids
     → IsCauseReady c steps x place → CauseStage c steps (copies_each size place ds x)
 cause_each c steps size [] place x e valid each r = lefts_hold c steps x r.have
 cause_each c steps size (d ∷ ds) place x e valid each r = by (λ y more v all ready. cause_each c steps size ds (place + 1) y more v all ready) (is_kept d) refl
@@ -182,7 +182,7 @@ cause_each c steps size (d ∷ ds) place x e valid each r = by (λ y more v all 
     parts : (place < length x.destinations) × (destination_at x.destinations place ≡ d) × (ds ≡ drop (suc place) x.destinations)
     parts = drop_first x.destinations place d ds e
 
-    by : ((y : CopyingView) → ds ≡ drop (place + 1) y.destinations → IsValid y.side.layout → AllByRecursion (IsDestination y.side.layout.components) y.ids → IsCauseReady c steps y (place + 1) → CauseStage c steps (copies_each size (place + 1) ds y))
+    by : ((y : CopyingView) → ds ≡ drop (place + 1) y.destinations → IsValid y.side.layout → AllByRecursion (HasItsObjects y.side.layout.components) y.ids → IsCauseReady c steps y (place + 1) → CauseStage c steps (copies_each size (place + 1) ds y))
         → (b : Bool) → is_kept d ≡ b → CauseStage c steps (if b then copies_chunks size place [] None (copies_each size (place + 1) ds) x (chunks_between (chunk_of d.extent.start) (end_of size d)) else copies_each size (place + 1) ds x)
     by others true kept =
         subst (λ (e : Destination). CauseStage c steps (copies_chunks size place [] None (copies_each size (place + 1) ds) x (chunks_between (chunk_of e.extent.start) (end_of size e)))) parts.1
@@ -200,10 +200,10 @@ cause_each c steps size (d ∷ ds) place x e valid each r = by (λ y more v all 
         (λ call ready. others (leaves_at x place call) (parts.2 ∙ sym (drop_left place call x.destinations) ∙ drop_next place (left_at place call x.destinations)) valid each ready))
     by others false gone = others x (parts.2 ∙ drop_next place x.destinations) valid each (record { have = r.have; none = λ p le. r.none p (omega (arith, le)) })
 
-pub cause_from : (c : CopyView) (steps : List (CallStep CopyView)) (size place : ℕ) (x : CopyingView) → IsValid x.side.layout → AllByRecursion (IsDestination x.side.layout.components) x.ids → IsCauseReady c steps x place → CauseStage c steps (copies_from size place x)
+pub cause_from : (c : CopyView) (steps : List (CallStep CopyView)) (size place : ℕ) (x : CopyingView) → IsValid x.side.layout → AllByRecursion (HasItsObjects x.side.layout.components) x.ids → IsCauseReady c steps x place → CauseStage c steps (copies_from size place x)
 cause_from c steps size place x valid each r = cause_each c steps size (drop place x.destinations) place x refl valid each r
 
-pub cause_chunks_from : (c : CopyView) (steps : List (CallStep CopyView)) (x : CopyingView) (size place : ℕ) (failed : List ℕ) (last : Option FailedCall) (number : ℕ) → IsValid x.side.layout → AllByRecursion (IsDestination x.side.layout.components) x.ids
+pub cause_chunks_from : (c : CopyView) (steps : List (CallStep CopyView)) (x : CopyingView) (size place : ℕ) (failed : List ℕ) (last : Option FailedCall) (number : ℕ) → IsValid x.side.layout → AllByRecursion (HasItsObjects x.side.layout.components) x.ids
     → IsCauseCopying c steps x place failed last number → CauseStage c steps (chunks_from size place failed last number x)
 cause_chunks_from c steps x size place failed last number valid each k =
     cause_chunks c steps x size place failed last number (copies_from size (place + 1)) valid each k

@@ -23,11 +23,11 @@ use Rattle.resync_copy.specs.declared.phase.CopyStage.TheVariants as stage
 use Rattle.resync_copy.specs.Calls.{CopyView}
 use Rattle.resync_copy.specs.Chunks.{chunk_of, chunk_start, chunks_below, chunks_between, first_solid, is_hole}
 use Rattle.resync_copy.specs.Copies.{chunks_from, clears, copies_chunks, copies_each, copies_from, copies_solid, end_of, fences_from, leaves_at, no_call, object_at, resets_at, resets_from, settles_from, takes_from}
-use Rattle.resync_copy.specs.Fitting.{IsDestination}
+use Rattle.resync_copy.specs.Fitting.{HasItsObjects}
 use Rattle.resync_copy.specs.Parts.{all_left, cleared_of, destination_at, is_kept, is_open, left_at, overlap, overlaps_kept}
 use Rattle.resync_copy.specs.Views.{CopyingView, fences_of, resets_of, with_destinations}
 use Rattle.copy_laws.specs.Did.{HasStep, IsFence, IsReset}
-use Rattle.copy_laws.specs.Whole.{ByCalls, ByHole, HasFailed, IsCopied, IsCopiedWhole, IsSource}
+use Rattle.copy_laws.specs.Whole.{ByCalls, ByHole, HasFailed, ChunkIsCopied, CopiesWhole, IsFreshOver}
 use Rattle.copy_laws.proofs.Finds.{IsFirst, chunk_before, chunk_within, first_found, none_found}
 use Rattle.copy_laws.proofs.Less.{IsFrame, IsLess, at_before, at_left, cleared_place, frame_at, kept_open, kept_over, length_at, less_at, none_kept}
 use Rattle.copy_laws.proofs.Phases.{AreFenced, AreReset, AreWhole, HasBegun, HoldsStage, IsCopyingAt, IsFencing, IsReady, IsResetting, IsSettled}
@@ -44,7 +44,7 @@ failed_more cs steps more (id ∷ ids) h =
     let f = h.0 in
     (record { component = f.component; listed = f.listed; same = f.same; start = f.start; end = f.end; there = f.there; failed = step_more _ steps more f.failed }, failed_more cs steps more ids h.1)
 
-pub copied_more : (cs : List Component) (d : Component) (generation size number : ℕ) (steps more : List (CallStep CopyView)) → IsCopied cs d generation size number steps → IsCopied cs d generation size number (steps ++ more)
+pub copied_more : (cs : List Component) (d : Component) (generation size number : ℕ) (steps more : List (CallStep CopyView)) → ChunkIsCopied cs d generation size number steps → ChunkIsCopied cs d generation size number (steps ++ more)
 copied_more cs d generation size number steps more (ByCalls source bytes before after taken put order listed fresh long take into) =
     ByCalls source bytes before (after ++ more) taken put (ap (λ (xs : List (CallStep CopyView)). xs ++ more) order ∙ append_assoc before (taken ∷ put ∷ after) more) listed fresh long take into
 copied_more cs d generation size number steps more (ByHole failed source were is hole) = ByHole failed source (failed_more cs steps more failed were) is hole
@@ -54,7 +54,7 @@ pub seam : (fences resets others more : List (CallStep CopyView)) (settle : Call
 seam fences resets others more settle =
     append_assoc fences (resets ++ settle ∷ others) more ∙ ap (λ (xs : List (CallStep CopyView)). fences ++ xs) (append_assoc resets (settle ∷ others) more)
 
-pub whole_more : (c : CopyView) (steps more : List (CallStep CopyView)) (x : CopyingView) (id : ℕ) → IsCopiedWhole c x.side.key id steps → IsCopiedWhole c x.side.key id (steps ++ more)
+pub whole_more : (c : CopyView) (steps more : List (CallStep CopyView)) (x : CopyingView) (id : ℕ) → CopiesWhole c x.side.key id steps → CopiesWhole c x.side.key id (steps ++ more)
 whole_more c steps more x id w = record {
   side = w.side;
   ids = w.ids;
@@ -140,14 +140,14 @@ module _ (c : CopyView) (steps : List (CallStep CopyView)) (x : CopyingView) (si
   frame : IsFrame x.side.layout.components x.ids place (destination_at x.destinations place)
   frame = frame_at x.side.layout.components x.ids x.destinations k.settled.begun.same place k.there
 
-  overlapped : (source : Component) → IsSource x.side.layout.components k.component source → overlaps_kept x.destinations source.extent ≡ true
+  overlapped : (source : Component) → IsFreshOver x.side.layout.components k.component source → overlaps_kept x.destinations source.extent ≡ true
   overlapped source is = kept_over x.destinations place source.extent k.there k.kept (ap (λ r. overlap r source.extent) k.extent ∙ is.over)
 
   opened : is_open x.destinations k.component.id ≡ true
   opened = kept_open x.destinations place k.component.id k.there k.kept (eq-eqb _ _ (frame.component ∙ sym (own_id x.side.layout.components (slice_index x.ids place) k.component k.found)))
 
-  whole_here : ((n : ℕ) → k.component.extent.start ≤ chunk_start n → chunk_start n < min k.component.extent.end size → IsCopied x.side.layout.components k.component x.side.layout.generation size n k.own)
-      → IsCopiedWhole c x.side.key (slice_index x.ids place) steps
+  whole_here : ((n : ℕ) → k.component.extent.start ≤ chunk_start n → chunk_start n < min k.component.extent.end size → ChunkIsCopied x.side.layout.components k.component x.side.layout.generation size n k.own)
+      → CopiesWhole c x.side.key (slice_index x.ids place) steps
   whole_here copied = record {
     side = x.side;
     ids = x.ids;
@@ -183,7 +183,7 @@ module _ (c : CopyView) (steps : List (CallStep CopyView)) (x : CopyingView) (si
   }
 
   -- the next destination is ready
-  ready_next : ((n : ℕ) → k.component.extent.start ≤ chunk_start n → chunk_start n < min k.component.extent.end size → IsCopied x.side.layout.components k.component x.side.layout.generation size n k.own)
+  ready_next : ((n : ℕ) → k.component.extent.start ≤ chunk_start n → chunk_start n < min k.component.extent.end size → ChunkIsCopied x.side.layout.components k.component x.side.layout.generation size n k.own)
       → IsReady c steps x size (place + 1)
   ready_next copied = record {
     begin = k.begin;
@@ -196,9 +196,9 @@ module _ (c : CopyView) (steps : List (CallStep CopyView)) (x : CopyingView) (si
     whole = λ p lt there kept. by p lt there kept (cases_lt p place);
   }
     where
-      by : (p : ℕ) → p < place + 1 → p < length x.destinations → is_kept (destination_at x.destinations p) ≡ true → (p < place) ⊎ (place ≤ p) → IsCopiedWhole c x.side.key (slice_index x.ids p) steps
+      by : (p : ℕ) → p < place + 1 → p < length x.destinations → is_kept (destination_at x.destinations p) ≡ true → (p < place) ⊎ (place ≤ p) → CopiesWhole c x.side.key (slice_index x.ids p) steps
       by p lt there kept (inl low) = k.whole p low there kept
-      by p lt there kept (inr high) = let same : place ≡ p = omega (arith, lt, high) in subst (λ (q : ℕ). IsCopiedWhole c x.side.key (slice_index x.ids q) steps) same (whole_here copied)
+      by p lt there kept (inr high) = let same : place ≡ p = omega (arith, lt, high) in subst (λ (q : ℕ). CopiesWhole c x.side.key (slice_index x.ids q) steps) same (whole_here copied)
 
 -- so it is where the destination is left
 pub ready_left : (c : CopyView) (steps : List (CallStep CopyView)) (x : CopyingView) (size place : ℕ) (failed : List ℕ) (number : ℕ) (call : FailedCall) → IsCopyingAt c steps x size place failed number
@@ -214,7 +214,7 @@ ready_left c steps x size place failed number call k = record {
   whole = λ p lt there kept. by p lt there kept (cases_lt p place);
 }
   where
-    by : (p : ℕ) → p < place + 1 → p < length (left_at place call x.destinations) → is_kept (destination_at (left_at place call x.destinations) p) ≡ true → (p < place) ⊎ (place ≤ p) → IsCopiedWhole c x.side.key (slice_index x.ids p) steps
+    by : (p : ℕ) → p < place + 1 → p < length (left_at place call x.destinations) → is_kept (destination_at (left_at place call x.destinations) p) ≡ true → (p < place) ⊎ (place ≤ p) → CopiesWhole c x.side.key (slice_index x.ids p) steps
     by p lt there kept (inl low) =
         k.whole p low (omega (arith, there, length_at place call x.destinations)) (ap is_kept (sym (at_before place call x.destinations p low)) ∙ kept)
     by p lt there kept (inr high) =
@@ -232,13 +232,13 @@ hole_there (Some c) e = (c, refl, init c.flags.init e)
     init false e = refl
 
 -- a chunk that nobody has to be taken from is copied
-hole_copied : (cs : List Component) (d : Component) (generation size n : ℕ) (own : List (CallStep CopyView)) (failed : List ℕ) → AllByRecursion (HasFailed cs own) failed → not (is_hole cs failed n) ≡ false → IsCopied cs d generation size n own
+hole_copied : (cs : List Component) (d : Component) (generation size n : ℕ) (own : List (CallStep CopyView)) (failed : List ℕ) → AllByRecursion (HasFailed cs own) failed → not (is_hole cs failed n) ≡ false → ChunkIsCopied cs d generation size n own
 hole_copied cs d generation size n own failed were e =
     let h = hole_there (chosen cs failed (chunk_start n)) e in ByHole failed h.0 were h.1 h.2
 
 -- the chunks up to another one are copied too
 pub further : (c : CopyView) (steps : List (CallStep CopyView)) (x : CopyingView) (size place : ℕ) (failed : List ℕ) (number next : ℕ) (k : IsCopyingAt c steps x size place failed number)
-    → ((n : ℕ) → number ≤ n → n < next → chunk_start n < min k.component.extent.end size → IsCopied x.side.layout.components k.component x.side.layout.generation size n k.own)
+    → ((n : ℕ) → number ≤ n → n < next → chunk_start n < min k.component.extent.end size → ChunkIsCopied x.side.layout.components k.component x.side.layout.generation size n k.own)
     → IsCopyingAt c steps x size place failed next
 further c steps x size place failed number next k more = record {
   begin = k.begin;
@@ -259,7 +259,7 @@ further c steps x size place failed number next k more = record {
   copied = λ n low lt below. by n low lt below (cases_lt n number);
 }
   where
-    by : (n : ℕ) → k.component.extent.start ≤ chunk_start n → n < next → chunk_start n < min k.component.extent.end size → (n < number) ⊎ (number ≤ n) → IsCopied x.side.layout.components k.component x.side.layout.generation size n k.own
+    by : (n : ℕ) → k.component.extent.start ≤ chunk_start n → n < next → chunk_start n < min k.component.extent.end size → (n < number) ⊎ (number ≤ n) → ChunkIsCopied x.side.layout.components k.component x.side.layout.generation size n k.own
     by n low lt below (inl before) = k.copied n low before below
     by n low lt below (inr behind) = more n behind lt below
 
@@ -287,7 +287,7 @@ chunks_hold c steps x size place failed last number others valid k more less = b
     taken j first (Some source) = further c steps x size place failed number j k (λ n low lt below. hole_copied cs k.component x.side.layout.generation size n k.own failed k.were (first.none n low lt))
     taken j first None = less (unwrap_or last no_call) (ready_left c steps x size place failed number (unwrap_or last no_call) k)
 
-    all : find solid (chunks_between number end) ≡ None → (n : ℕ) → k.component.extent.start ≤ chunk_start n → chunk_start n < min k.component.extent.end size → (n < number) ⊎ (number ≤ n) → IsCopied cs k.component x.side.layout.generation size n k.own
+    all : find solid (chunks_between number end) ≡ None → (n : ℕ) → k.component.extent.start ≤ chunk_start n → chunk_start n < min k.component.extent.end size → (n < number) ⊎ (number ≤ n) → ChunkIsCopied cs k.component x.side.layout.generation size n k.own
     all none n low below (inl before) = k.copied n low before below
     all none n low below (inr behind) =
         hole_copied cs k.component x.side.layout.generation size n k.own failed k.were
@@ -324,14 +324,14 @@ clears_hold c steps x size place past r = λ id has.
     let at = cleared_place x.destinations id (from_contains (cleared_of x.destinations) id has) in
     let lt : at.0 < length x.destinations = at.1.there in
     let frame = frame_at x.side.layout.components x.ids x.destinations r.settled.begun.same at.0 lt in
-    subst (λ (k : ℕ). IsCopiedWhole c x.side.key k steps) (sym frame.component ∙ at.1.same) (r.whole at.0 (omega (arith, lt, past)) lt at.1.kept)
+    subst (λ (k : ℕ). CopiesWhole c x.side.key k steps) (sym frame.component ∙ at.1.same) (r.whole at.0 (omega (arith, lt, past)) lt at.1.kept)
 
-begins_copying : (c : CopyView) (steps : List (CallStep CopyView)) (x : CopyingView) (size place : ℕ) → AllByRecursion (IsDestination x.side.layout.components) x.ids → IsReady c steps x size place → place < length x.destinations → is_kept (destination_at x.destinations place) ≡ true
+begins_copying : (c : CopyView) (steps : List (CallStep CopyView)) (x : CopyingView) (size place : ℕ) → AllByRecursion (HasItsObjects x.side.layout.components) x.ids → IsReady c steps x size place → place < length x.destinations → is_kept (destination_at x.destinations place) ≡ true
     → IsCopyingAt c steps x size place [] (chunk_of (destination_at x.destinations place).extent.start)
 begins_copying c steps x size place each r lt kept =
     let cs : List Component = x.side.layout.components in
     let frame = frame_at cs x.ids x.destinations r.settled.begun.same place lt in
-    let d : IsDestination cs (slice_index x.ids place) = every_in (IsDestination cs) x.ids (get_or x.ids place 0) each (get_there x.ids place 0 frame.there) in
+    let d : HasItsObjects cs (slice_index x.ids place) = every_in (HasItsObjects cs) x.ids (get_or x.ids place 0) each (get_there x.ids place 0 frame.there) in
     let extent : (destination_at x.destinations place).extent ≡ d.0.extent = frame.extent ∙ extent_of cs (slice_index x.ids place) d.0 d.1 in
     record {
       begin = r.begin;
@@ -352,7 +352,7 @@ begins_copying c steps x size place each r lt kept =
       copied = λ n low before below. absurd (chunk_before (destination_at x.destinations place).extent.start n (subst (λ (s : ℕ). s ≤ chunk_start n) (ap (λ e. e.start) (sym extent)) low) before);
     }
 
-pub each_hold : (c : CopyView) (steps : List (CallStep CopyView)) (size : ℕ) (ds : List Destination) (place : ℕ) (x : CopyingView) → ds ≡ drop place x.destinations → IsValid x.side.layout → AllByRecursion (IsDestination x.side.layout.components) x.ids
+pub each_hold : (c : CopyView) (steps : List (CallStep CopyView)) (size : ℕ) (ds : List Destination) (place : ℕ) (x : CopyingView) → ds ≡ drop place x.destinations → IsValid x.side.layout → AllByRecursion (HasItsObjects x.side.layout.components) x.ids
     → IsReady c steps x size place → HoldsStage c steps (copies_each size place ds x)
 each_hold c steps size [] place x e valid each r = clears_hold c steps x size place (drop_none x.destinations place e) r
 each_hold c steps size (d ∷ ds) place x e valid each r = by (λ y more v all ready. each_hold c steps size ds (place + 1) y more v all ready) (is_kept d) refl
@@ -360,13 +360,13 @@ each_hold c steps size (d ∷ ds) place x e valid each r = by (λ y more v all r
     parts : (place < length x.destinations) × (destination_at x.destinations place ≡ d) × (ds ≡ drop (suc place) x.destinations)
     parts = drop_first x.destinations place d ds e
 
-    skipped : is_kept d ≡ false → (p : ℕ) → p < place + 1 → p < length x.destinations → is_kept (destination_at x.destinations p) ≡ true → (p < place) ⊎ (place ≤ p) → IsCopiedWhole c x.side.key (slice_index x.ids p) steps
+    skipped : is_kept d ≡ false → (p : ℕ) → p < place + 1 → p < length x.destinations → is_kept (destination_at x.destinations p) ≡ true → (p < place) ⊎ (place ≤ p) → CopiesWhole c x.side.key (slice_index x.ids p) steps
     skipped isnt p lt there kept (inl low) = r.whole p low there kept
     skipped isnt p lt there kept (inr high) =
         let same : p ≡ place = omega (arith, lt, high) in
         absurd (false≢true (sym isnt ∙ ap is_kept (sym parts.1) ∙ ap (λ (q : ℕ). is_kept (destination_at x.destinations q)) (sym same) ∙ kept))
 
-    by : ((y : CopyingView) → ds ≡ drop (place + 1) y.destinations → IsValid y.side.layout → AllByRecursion (IsDestination y.side.layout.components) y.ids → IsReady c steps y size (place + 1) → HoldsStage c steps (copies_each size (place + 1) ds y))
+    by : ((y : CopyingView) → ds ≡ drop (place + 1) y.destinations → IsValid y.side.layout → AllByRecursion (HasItsObjects y.side.layout.components) y.ids → IsReady c steps y size (place + 1) → HoldsStage c steps (copies_each size (place + 1) ds y))
         → (b : Bool) → is_kept d ≡ b → HoldsStage c steps (if b then copies_chunks size place [] None (copies_each size (place + 1) ds) x (chunks_between (chunk_of d.extent.start) (end_of size d)) else copies_each size (place + 1) ds x)
     by others true kept =
         subst (λ (e : Destination). HoldsStage c steps (copies_chunks size place [] None (copies_each size (place + 1) ds) x (chunks_between (chunk_of e.extent.start) (end_of size e)))) parts.1
@@ -386,10 +386,10 @@ each_hold c steps size (d ∷ ds) place x e valid each r = by (λ y more v all r
           whole = λ p lt there kept. skipped isnt p lt there kept (cases_lt p place);
         })
 
-pub from_hold : (c : CopyView) (steps : List (CallStep CopyView)) (size place : ℕ) (x : CopyingView) → IsValid x.side.layout → AllByRecursion (IsDestination x.side.layout.components) x.ids → IsReady c steps x size place → HoldsStage c steps (copies_from size place x)
+pub from_hold : (c : CopyView) (steps : List (CallStep CopyView)) (size place : ℕ) (x : CopyingView) → IsValid x.side.layout → AllByRecursion (HasItsObjects x.side.layout.components) x.ids → IsReady c steps x size place → HoldsStage c steps (copies_from size place x)
 from_hold c steps size place x valid each r = each_hold c steps size (drop place x.destinations) place x refl valid each r
 
-pub chunks_from_hold : (c : CopyView) (steps : List (CallStep CopyView)) (x : CopyingView) (size place : ℕ) (failed : List ℕ) (last : Option FailedCall) (number : ℕ) → IsValid x.side.layout → AllByRecursion (IsDestination x.side.layout.components) x.ids
+pub chunks_from_hold : (c : CopyView) (steps : List (CallStep CopyView)) (x : CopyingView) (size place : ℕ) (failed : List ℕ) (last : Option FailedCall) (number : ℕ) → IsValid x.side.layout → AllByRecursion (HasItsObjects x.side.layout.components) x.ids
     → IsCopyingAt c steps x size place failed number → HoldsStage c steps (chunks_from size place failed last number x)
 chunks_from_hold c steps x size place failed last number valid each k =
     chunks_hold c steps x size place failed last number (copies_from size (place + 1)) valid k

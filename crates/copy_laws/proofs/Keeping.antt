@@ -33,12 +33,12 @@ use Rattle.resync_copy.specs.declared.phase.CopyStage.TheVariants as stage
 use Rattle.resync_copy.specs.Calls.{CopyView}
 use Rattle.resync_copy.specs.Chunks.{chunk_range, chunk_start, piece_in}
 use Rattle.resync_copy.specs.Copies.{bytes_in, bytes_of, emptied, fenced, fences_object, first_writer, leaves_at, leaves_over, leaves_with, object_at, piece_from, piece_put, piece_read, piece_to, puts_chunk, resets_object, settled_objects, settles, stage_at, takes_chunk, target_of}
-use Rattle.resync_copy.specs.Fitting.{IsDestination, IsSoundStage}
+use Rattle.resync_copy.specs.Fitting.{HasItsObjects, IsSoundStage}
 use Rattle.resync_copy.specs.Parts.{destinations_in, fenced_ids, left_over, left_with, is_open, overlaps_kept}
 use Rattle.resync_copy.specs.Views.{CopyingView, fences_of, resets_of}
 use Rattle.resync_copy.proofs.PartLaws.{chosen_in, named, shaped, there, with_id_in}
-use Rattle.copy_laws.specs.Did.{CallsObject, HasStep, IsFence, IsPut, IsReset, fence_of, put_of, reset_of, take_of}
-use Rattle.copy_laws.specs.Whole.{ByCalls, HasFailed, IsCopied}
+use Rattle.copy_laws.specs.Did.{CallsObject, HasStep, IsFence, IsOkPut, IsReset, fence_of, put_of, reset_of, take_of}
+use Rattle.copy_laws.specs.Whole.{ByCalls, HasFailed, ChunkIsCopied}
 use Rattle.copy_laws.proofs.Going.{begun_less, chunks_from_hold, copying_more, fenced_less, fences_hold, from_hold, further, ready_left, resets_hold, step_more}
 use Rattle.copy_laws.proofs.Less.{IsLess, less_over, less_same, less_with, none_open, none_over}
 use Rattle.copy_laws.proofs.Log.{called, piece_listed, piece_there}
@@ -371,7 +371,7 @@ module _ (c : CopyView) (front : List (CallStep CopyView)) (made : CallStep Copy
       init : k.component.flags.init ≡ true
       init =
           let within : h.place < length h.copying.ids = omega (arith, k.there, sound.0.copying.as_many) in
-          let d : IsDestination cs (slice_index h.copying.ids h.place) = every_in (IsDestination cs) h.copying.ids (get_or h.copying.ids h.place 0) sound.0.copying.each (get_there h.copying.ids h.place 0 within) in
+          let d : HasItsObjects cs (slice_index h.copying.ids h.place) = every_in (HasItsObjects cs) h.copying.ids (get_or h.copying.ids h.place 0) sound.0.copying.each (get_there h.copying.ids h.place 0 within) in
           let found : Some d.0 ≡ Some k.component = sym d.1 ∙ k.found in
           let one : d.0 ≡ k.component = cc in
           subst (λ (x : Component). x.flags.init ≡ true) one d.2
@@ -391,7 +391,7 @@ module _ (c : CopyView) (front : List (CallStep CopyView)) (made : CallStep Copy
       more : IsCopyingAt c (u.front ++ u.taken ∷ made ∷ []) h.copying h.size h.place h.failed h.number
       more = copying_more c u.front (u.taken ∷ made ∷ []) h.copying h.size h.place h.failed h.number k
 
-      put_here : write_answer (target_of made.before (object_of p)) (object_of p).number g ≡ answer.Ok → made.after ≡ piece_put made.before h p bytes → IsPut (piece_at k.component start end) g bytes made
+      put_here : write_answer (target_of made.before (object_of p)) (object_of p).number g ≡ answer.Ok → made.after ≡ piece_put made.before h p bytes → IsOkPut (piece_at k.component start end) g bytes made
       put_here e after =
           let t : TargetState = target_of made.before (object_of p) in
           record {
@@ -408,7 +408,7 @@ module _ (c : CopyView) (front : List (CallStep CopyView)) (made : CallStep Copy
           let next = further c (u.front ++ u.taken ∷ made ∷ []) h.copying h.size h.place h.failed h.number (h.number + 1) more
           (λ n low lt below.
           let is : h.number ≡ n = omega (arith, low, lt) in
-          subst (λ (j : ℕ). IsCopied cs k.component g h.size j (k.own ++ u.taken ∷ made ∷ [])) is
+          subst (λ (j : ℕ). ChunkIsCopied cs k.component g h.size j (k.own ++ u.taken ∷ made ∷ [])) is
           (ByCalls u.source bytes k.own [] u.taken made refl u.listed u.fresh (sound.1 ∙ ap (λ (e : ℕ). e - start) ends) u.take (put_here e after))) in (
             refl,
             chunks_from_hold c (front ++ made ∷ []) h.copying h.size h.place h.failed h.last (h.number + 1) sound.0.copying.valid sound.0.copying.each

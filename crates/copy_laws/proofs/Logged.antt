@@ -27,7 +27,7 @@ use Rattle.resync_copy.specs.declared.phase.CopyStage.TheVariants as stage
 use Rattle.resync_copy.specs.Calls.{CopyView}
 use Rattle.resync_copy.specs.Chunks.{chunk_start, piece_in}
 use Rattle.resync_copy.specs.Copies.{bytes_of, fences_object, object_at, piece_from, piece_to, puts_chunk, resets_object, target_of, takes_chunk}
-use Rattle.resync_copy.specs.Fitting.{FitsAt, IsDestination, IsSoundAt}
+use Rattle.resync_copy.specs.Fitting.{FitsAt, HasItsObjects, IsSoundAt}
 use Rattle.resync_copy.specs.Parts.{destinations_in, fenced_ids}
 use Rattle.resync_copy.specs.Steps.{copy_at}
 use Rattle.resync_copy.specs.Views.{fences_of, resets_of}
@@ -133,7 +133,7 @@ put_logged made call place (at.Copy (stage.Put h bytes)) sound fits came left e 
     let cs : List Component = h.copying.side.layout.components in
     let ids : List ℕ = h.copying.ids in
     let within : h.place < length ids = omega (arith, sound.0.place, sound.0.copying.as_many) in
-    let d : IsDestination cs (slice_index ids h.place) = every_in (IsDestination cs) ids (get_or ids h.place 0) sound.0.copying.each (get_there ids h.place 0 within) in
+    let d : HasItsObjects cs (slice_index ids h.place) = every_in (HasItsObjects cs) ids (get_or ids h.place 0) sound.0.copying.each (get_there ids h.place 0 within) in
     let i = with_id_in cs (slice_index ids h.place) d.0 d.1 in
     let same : p ≡ piece_at d.0 (bytes_of h).start (bytes_of h).end = ap (λ (o : Option Component). piece_in o (bytes_of h)) d.1 in
     let whole = piece_there d.0 (bytes_of h).start (bytes_of h).end (shaped h.copying.side.layout sound.0.copying.valid d.0 i) d.2 in

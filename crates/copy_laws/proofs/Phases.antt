@@ -21,7 +21,7 @@ use Rattle.resync_copy.specs.Copies.{object_at}
 use Rattle.resync_copy.specs.Parts.{destination_at, destinations_in, is_kept, is_open, overlaps_kept, with_id}
 use Rattle.resync_copy.specs.Views.{CopyingView, fences_of, resets_of}
 use Rattle.copy_laws.specs.Did.{HasStep, IsFence, IsReset, IsTake}
-use Rattle.copy_laws.specs.Whole.{HasFailed, IsCopied, IsCopiedWhole}
+use Rattle.copy_laws.specs.Whole.{HasFailed, ChunkIsCopied, CopiesWhole}
 use Rattle.copy_laws.proofs.Less.{unleft}
 use Rattle.copy_laws.proofs.Runs.{Stands}
 
@@ -78,7 +78,7 @@ pub record IsSettled (c : CopyView) (x : CopyingView) (size : ℕ) (begin : Call
 -- each kept destination before this place was copied whole
 abbrev pub AreWhole : CopyView → List (CallStep CopyView) → CopyingView → ℕ → Type 0
 AreWhole c steps x place =
-    (p : ℕ) → p < place → p < length x.destinations → is_kept (destination_at x.destinations p) ≡ true → IsCopiedWhole c x.side.key (slice_index x.ids p) steps
+    (p : ℕ) → p < place → p < length x.destinations → is_kept (destination_at x.destinations p) ≡ true → CopiesWhole c x.side.key (slice_index x.ids p) steps
 
 -- the kept destinations before this place were copied
 pub record IsReady (c : CopyView) (steps : List (CallStep CopyView)) (x : CopyingView) (size place : ℕ) : Type 0 where
@@ -109,7 +109,7 @@ pub record IsCopyingAt (c : CopyView) (steps : List (CallStep CopyView)) (x : Co
   pub extent : (destination_at x.destinations place).extent ≡ component.extent
   pub were : AllByRecursion (HasFailed x.side.layout.components own) failed
   pub copied : (n : ℕ) → component.extent.start ≤ chunk_start n → n < number → chunk_start n < min component.extent.end size
-      → IsCopied x.side.layout.components component x.side.layout.generation size n own
+      → ChunkIsCopied x.side.layout.components component x.side.layout.generation size n own
 
 -- the chunk was taken in the last step
 pub record IsPutting (c : CopyView) (steps : List (CallStep CopyView)) (h : Chunk) (bytes : List ℕ) : Type 0 where
@@ -128,7 +128,7 @@ HoldsStage c steps (stage.Reset x next) = IsResetting c steps x next
 HoldsStage c steps (stage.Settle x) = IsResetting c steps x (length (resets_of x))
 HoldsStage c steps (stage.Take h) = IsCopyingAt c steps h.copying h.size h.place h.failed h.number
 HoldsStage c steps (stage.Put h bytes) = IsPutting c steps h bytes
-HoldsStage c steps (stage.Done key cleared left) = (id : ℕ) → Contains cleared id → IsCopiedWhole c key id steps
+HoldsStage c steps (stage.Done key cleared left) = (id : ℕ) → Contains cleared id → CopiesWhole c key id steps
 
 abbrev pub HoldsAt : CopyView → List (CallStep CopyView) → CopyAt → Type 0
 HoldsAt c steps at.Begin = steps ≡ []

@@ -15,7 +15,7 @@ use Rattle.mirror_select.proofs.Sound.{in_left, in_right, one_id}
 use Rattle.resync_copy.specs.declared.parts.CopyObject.{CopyObject}
 use Rattle.resync_copy.specs.declared.parts.Destination.{Destination}
 use Rattle.resync_copy.specs.Parts.{destination_with, destinations_in, extent_with, fenced_ids, fenced_in, is_fenced, objects_in, objects_of, objects_with, overlap, overlaps_any, with_id}
-use Rattle.copy_laws.specs.Whole.{IsSource}
+use Rattle.copy_laws.specs.Whole.{IsFreshOver}
 
 -- an object of a component, as a copy lists it
 abbrev pub listed_object : Component → ObjectId → CopyObject
@@ -104,14 +104,14 @@ is_not true e = absurd (false≢true (sym e))
 is_not false e = refl
 
 -- a source of a destination is fenced
-source_fenced : (cs : List Component) (ids : List ℕ) (id : ℕ) (d c : Component) → In id ids → with_id cs id ≡ Some d → IsSource cs d c → is_fenced (destinations_in cs ids) c ≡ true
+source_fenced : (cs : List Component) (ids : List ℕ) (id : ℕ) (d c : Component) → In id ids → with_id cs id ≡ Some d → IsFreshOver cs d c → is_fenced (destinations_in cs ids) c ≡ true
 source_fenced cs ids id d c i e s =
     let over : overlap (destination_with cs id).extent c.extent ≡ true = ap (λ (r : Range). overlap r c.extent) (extent_of cs id d e) ∙ s.over in
     let any : overlaps_any (destinations_in cs ids) c.extent ≡ true = any_in (λ (x : Destination). overlap x.extent c.extent) (destinations_in cs ids) (destination_with cs id) (in_destinations cs ids id i) over in
     and_from (not c.flags.stale) _ (is_not c.flags.stale s.fresh) (and_from c.flags.init _ s.made any)
 
 -- an object of a source has its place among those that are fenced
-pub source_place : (l : Composite) → IsValid l → (ids : List ℕ) (id : ℕ) (d c : Component) (o : ObjectId) (none : CopyObject) → In id ids → with_id l.components id ≡ Some d → IsSource l.components d c → In o c.objects
+pub source_place : (l : Composite) → IsValid l → (ids : List ℕ) (id : ℕ) (d c : Component) (o : ObjectId) (none : CopyObject) → In id ids → with_id l.components id ≡ Some d → IsFreshOver l.components d c → In o c.objects
     → (i : ℕ) × (i < length (fenced_in l.components (destinations_in l.components ids))) × (get_or (fenced_in l.components (destinations_in l.components ids)) i none ≡ listed_object c o)
 source_place l v ids id d c o none i e s h =
     let cs : List Component = l.components in

@@ -58,7 +58,7 @@ pub record IsTake (p : Piece) (bytes : List ℕ) (made : CallStep CopyView) : Ty
   pub held : bytes ≡ bytes_in made.before p
 
 -- an Ok put of these bytes as the piece, with this generation
-pub record IsPut (p : Piece) (generation : ℕ) (bytes : List ℕ) (made : CallStep CopyView) : Type 0 where
+pub record IsOkPut (p : Piece) (generation : ℕ) (bytes : List ℕ) (made : CallStep CopyView) : Type 0 where
   pub there : p.object ≡ Some (object_of p)
   pub called : CallsObject made (object_of p) (put_of p bytes generation answer.Ok)
   pub wrote : made.after ≡ with_target made.before (object_of p).target (after_write (target_of made.before (object_of p)) (object_of p).number p.offset bytes generation)

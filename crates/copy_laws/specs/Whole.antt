@@ -24,10 +24,10 @@ use Rattle.resync_copy.specs.Chunks.{chunk_range, chunk_start}
 use Rattle.resync_copy.specs.Copies.{new_copy}
 use Rattle.resync_copy.specs.Parts.{overlap, with_id}
 use Rattle.resync_copy.specs.Steps.{copy_step}
-use Rattle.copy_laws.specs.Did.{CallsObject, HasStep, IsFence, IsMade, IsPut, IsReset, IsTake, take_of}
+use Rattle.copy_laws.specs.Did.{CallsObject, HasStep, IsFence, IsMade, IsOkPut, IsReset, IsTake, take_of}
 
 -- a component of the layout from which bytes of a destination can come: it is fresh, has its objects, and overlaps it
-pub record IsSource (cs : List Component) (d c : Component) : Type 0 where
+pub record IsFreshOver (cs : List Component) (d c : Component) : Type 0 where
   pub listed : Contains cs c
   pub fresh : c.flags.stale ≡ false
   pub made : c.flags.init ≡ true
@@ -44,20 +44,20 @@ pub record HasFailed (cs : List Component) (steps : List (CallStep CopyView)) (i
   pub failed : HasStep (λ made. CallsObject made (object_of (piece_at component start end)) (take_of (piece_at component start end) answer.Failed)) steps
 
 -- a chunk of a destination was copied in these steps: its bytes were taken from a fresh component of the layout, and put in the next step; or who is to answer it, without those whose takes failed, has no objects, so that there are zeros
-pub data IsCopied (cs : List Component) (d : Component) (generation size number : ℕ) (steps : List (CallStep CopyView)) : Type 0 where
+pub data ChunkIsCopied (cs : List Component) (d : Component) (generation size number : ℕ) (steps : List (CallStep CopyView)) : Type 0 where
   ByCalls : (source : Component) (bytes : List ℕ) (before after : List (CallStep CopyView)) (taken put : CallStep CopyView)
       → steps ≡ before ++ taken ∷ put ∷ after
       → Contains cs source → source.flags.stale ≡ false
       → length bytes ≡ (chunk_range number (min d.extent.end size)).end - chunk_start number
       → IsTake (piece_at source (chunk_start number) (chunk_range number (min d.extent.end size)).end) bytes taken
-      → IsPut (piece_at d (chunk_start number) (chunk_range number (min d.extent.end size)).end) generation bytes put
-      → IsCopied cs d generation size number steps
+      → IsOkPut (piece_at d (chunk_start number) (chunk_range number (min d.extent.end size)).end) generation bytes put
+      → ChunkIsCopied cs d generation size number steps
   ByHole : (failed : List ℕ) (source : Component)
       → AllByRecursion (HasFailed cs steps) failed → chosen cs failed (chunk_start number) ≡ Some source → source.flags.init ≡ false
-      → IsCopied cs d generation size number steps
+      → ChunkIsCopied cs d generation size number steps
 
 -- the destination with this id was copied whole by a copy with this key: after its begin each object of each source was fenced with the begin's generation; then each object of the destination was reset; then came the settle, where nobody else had a PW lock on an object of a source, and where the size was read; and then each chunk below that size was copied
-pub record IsCopiedWhole (c : CopyView) (key : KeyView) (id : ℕ) (steps : List (CallStep CopyView)) : Type 0 where
+pub record CopiesWhole (c : CopyView) (key : KeyView) (id : ℕ) (steps : List (CallStep CopyView)) : Type 0 where
   pub side : Side
   pub ids : List ℕ
   pub key_is : side.key ≡ key
@@ -73,17 +73,17 @@ pub record IsCopiedWhole (c : CopyView) (key : KeyView) (id : ℕ) (steps : List
   pub rest : List (CallStep CopyView)
   pub in_order : steps ≡ begin ∷ (fences ++ (resets ++ settle ∷ (others ++ (own ++ rest))))
   pub begun : copy_begins c.client c.name c.what begin.before.meta ≡ Gives (begun_as.Copy side ids) begin.after.meta
-  pub fenced : (source : Component) (o : ObjectId) → IsSource side.layout.components component source → Contains source.objects o → HasStep (IsFence o side.layout.generation) fences
+  pub fenced : (source : Component) (o : ObjectId) → IsFreshOver side.layout.components component source → Contains source.objects o → HasStep (IsFence o side.layout.generation) fences
   pub emptied : (o : ObjectId) → Contains component.objects o → HasStep (IsReset o side.layout.generation) resets
-  pub alone : (source : Component) (o : ObjectId) → IsSource side.layout.components component source → Contains source.objects o → writer_but settle.before.locks c.client o ≡ None
+  pub alone : (source : Component) (o : ObjectId) → IsFreshOver side.layout.components component source → Contains source.objects o → writer_but settle.before.locks c.client o ≡ None
   pub still : settle.after ≡ settle.before
   pub size : ℕ
   pub size_is : size_of side.file settle.before.meta ≡ Some size
-  pub copied : (number : ℕ) → component.extent.start ≤ chunk_start number → chunk_start number < min component.extent.end size → IsCopied side.layout.components component side.layout.generation size number own
+  pub copied : (number : ℕ) → component.extent.start ≤ chunk_start number → chunk_start number < min component.extent.end size → ChunkIsCopied side.layout.components component side.layout.generation size number own
 
 -- each destination that a copy hands over to be cleared was copied whole
 abbrev pub ClearedAreWhole : Type 0
 ClearedAreWhole =
     (client : ℕ) (name : List ℕ) (what : CopyWhat) (steps : List (CallStep CopyView)) (made : CallStep CopyView) (key : KeyView) (cleared : List ℕ) (left : List Left) →
     IsRun copy_step (new_copy client name what) (steps ++ made ∷ []) → All IsMade (steps ++ made ∷ []) →
-    made.call.at ≡ at.Copy (stage.Done key cleared left) → (id : ℕ) → Contains cleared id → IsCopiedWhole (new_copy client name what) key id steps
+    made.call.at ≡ at.Copy (stage.Done key cleared left) → (id : ℕ) → Contains cleared id → CopiesWhole (new_copy client name what) key id steps

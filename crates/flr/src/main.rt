@@ -1,11 +1,14 @@
 //! `flr`: File Level Redundancy of plain files, as a program whose behaviour is proved.
 #![tactic(auto)]
 
+mod gate;
+
+use crate::gate::MixedGate;
 use flr_base::{FromRead, ToWrite};
 use flr_top::flr_main;
 use std::process::ExitCode;
+use std::time::{Clock, SystemTime};
 use std::{env, io};
-use turn_crew::FreeGate;
 
 /// What the program ends with where memory runs out before its words are known.
 const NO_MEMORY: u8 = 6;
@@ -13,6 +16,17 @@ const NO_MEMORY: u8 = 6;
 /// The words behind the program's name. Words that aren't text are an error.
 fn words(rt: &HostRuntime) -> io::Result<Vec<String>> {
     Ok(env::args(rt)?.skip(1).collect(rt.alloc())?)
+}
+
+/// Another number in each run, where the clock can be read.
+fn seed(clock: &impl Clock) -> u32 {
+    let Ok(now) = SystemTime::now(clock) else {
+        return 0;
+    };
+    match now.duration_since(SystemTime::UNIX_EPOCH) {
+        Ok(age) => age.subsec_nanos(),
+        Err(_) => 0,
+    }
 }
 
 fn main(rt: HostRuntime) -> ExitCode {
@@ -32,6 +46,6 @@ fn main(rt: HostRuntime) -> ExitCode {
         words.as_slice(),
         &mut input,
         &mut out,
-        &FreeGate,
+        &MixedGate::new(seed(&rt)),
     ))
 }

@@ -1,5 +1,6 @@
 -- With what the metadata server refuses.
 use Rattle.std.proofs.Common.{ℕ, Bool, true, false, Option, Some, None, List, length, nat_lt, ◌==◌}
+use Rattle.flr_base.specs.Limits.{most_bytes}
 use Rattle.flr_base.specs.declared.reply.Range.{Range}
 use Rattle.composite_layout.specs.Choices.{is_ready}
 use Rattle.composite_layout.specs.declared.spec.MirrorSpec.{MirrorSpec}
@@ -61,10 +62,10 @@ module _ (client : ℕ) (range : Range) (step : ℕ) (m : MetaView) where
   open_by name false (Some f) = open_by_ready f (is_ready f.layout range)
 
 pub write_refusable : (client : ℕ) (name : List ℕ) (range : Range) (step : ℕ) (m : MetaView) → Refusable (opening.write_opens client name range step m)
-write_refusable client name range step m = open_by client range step m name (nat_lt opening.most_bytes range.end) (file_named name m.files)
+write_refusable client name range step m = open_by client range step m name (nat_lt most_bytes range.end) (file_named name m.files)
 
 pub cut_refusable : (client : ℕ) (name : List ℕ) (size step : ℕ) (m : MetaView) → Refusable (opening.cut_opens client name size step m)
-cut_refusable client name size step m = open_by client (record { start = size; end = eof }) step m name (nat_lt opening.most_bytes size) (file_named name m.files)
+cut_refusable client name size step m = open_by client (record { start = size; end = eof }) step m name (nat_lt most_bytes size) (file_named name m.files)
 
 -- ---- commands of one step
 

@@ -15,7 +15,8 @@ use Rattle.meta_server.specs.Files.{File, file_named}
 use Rattle.meta_server.specs.Naming.{creates, removes, sets}
 use Rattle.meta_server.specs.Outcomes.{Gives, Refuses, Waits}
 use Rattle.meta_server.specs.Outcomes as meta
-use Rattle.mirror_admin.specs.OneStep.{answered, default_name, one_step, shows}
+use Rattle.lfs_words.specs.Naming.{default_name}
+use Rattle.mirror_admin.specs.OneStep.{answered, one_step, shows}
 use Rattle.mirror_admin.specs.Rotting.{is_kept, rot_reply}
 use Rattle.call_steps.specs.Servers.{Servers}
 use Rattle.call_steps.specs.Steps.{Outcome, Going, Fixed, Ended, Answered, Blocked}

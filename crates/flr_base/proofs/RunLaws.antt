@@ -1,13 +1,13 @@
 -- The scan reads each spelling, and each state of it stands for the bytes that lead to it.
-use Rattle.std.proofs.Common.{◌≡◌, ◌≢◌, ℕ, ◌+◌, ◌*◌, ◌-◌, ◌/◌, ◌%◌, ◌^◌, ◌<◌, ◌≤◌, true, false, cond, eqb, ltb, leb, not, ◌&&◌, List, [], ◌∷◌, ◌++◌, length, replicate, Option, Some, None, refl, sym, ap, subst, ◌∙◌, append_assoc, arith, inl, inr}
-use Rattle.std.specs.Prelude.{MatchOption, MatchResult, option_and_then, Result, Ok, Err, get_or, take}
+use Rattle.std.proofs.Common.{◌≡◌, ◌≢◌, ℕ, zero, suc, ◌+◌, ◌*◌, ◌-◌, ◌/◌, ◌%◌, ◌^◌, ◌<◌, ◌≤◌, true, false, cond, eqb, ltb, leb, not, ◌&&◌, List, [], ◌∷◌, ◌++◌, length, replicate, Option, Some, None, refl, sym, ap, subst, ◌∙◌, append_assoc, arith, inl, inr}
+use Rattle.std.specs.Prelude.{MatchOption, MatchResult, option_and_then, Result, Ok, Err, get_or, take, drop}
 use Rattle.std.proofs.lemmas.Grind.{common_steps}
 use Rattle.std.proofs.lemmas.List.Folds.{length-flat_map-take}
-use Rattle.std.proofs.lemmas.List.{length-replicate, length-take, length-append, replicate_more}
+use Rattle.std.proofs.lemmas.List.{length-replicate}
 use Rattle.std.proofs.lemmas.List.Concat.{flat_map-cons}
 use Rattle.std.proofs.lemmas.Grind.{flat_map-append}
-use Rattle.std.specs.Prelude.{option_to_list}
-use Rattle.std.proofs.lemmas.List.{take_more}
+use Rattle.std.proofs.lemmas.List.{take_more, get_or-drop, length-drop}
+use Rattle.std.proofs.Math.Seq.{take-add}
 use Rattle.std.specs.Option.{option_eq}
 use Rattle.std.specs.List.{flat_map}
 use Rattle.std.specs.Fmt.{decimal, digit_glyph}
@@ -25,7 +25,7 @@ use Rattle.flr_base.specs.declared.runs.scan.Move.TheVariants.{Go, Close, Stop}
 use Rattle.flr_base.specs.Runs.{hex, run_text, runs_text, bytes_of, AreRunsAfter, AreRuns, IsSpelling, Spells}
 use Rattle.flr_base.specs.declared.runs.fault.RunsError.{RunsError}
 use Rattle.flr_base.specs.declared.runs.fault.RunsError.TheVariants.{Bad, TooLong, NoMemory}
-use Rattle.flr_base.specs.RunsAnswers.{IsFault, IsNoMemory}
+use Rattle.flr_base.specs.RunsAnswers.{IsRunsFault, IsNoMemory}
 use Rattle.flr_base.specs.Scan.{hex_value, high_of, low_of, next, last_after, State, moved, step}
 
 abbrev pub run_of : ℕ → ℕ → Run
@@ -358,7 +358,7 @@ one_value text a b h k =
     let same = one_reading h.0 k.0 h.1 k.1 (sym h.2 ∙ k.2) in
     h.3 ∙ ap bytes_of same ∙ sym k.3
 
-pub again : (text : List ℕ) (most : ℕ) (r : Result (List ℕ) RunsError) → MatchResult r (λ bytes. Spells text bytes × (length bytes ≤ most)) (IsFault text most)
+pub again : (text : List ℕ) (most : ℕ) (r : Result (List ℕ) RunsError) → MatchResult r (λ bytes. Spells text bytes × (length bytes ≤ most)) (IsRunsFault text most)
     → (bytes : List ℕ) → Spells text bytes → length bytes ≤ most → MatchResult r (λ found. found ≡ bytes) IsNoMemory
 again text most (Ok found) h bytes s le = one_value text found bytes h.0 s
 again text most (Err (Bad at)) h bytes s le = h.none (s.0, s.1, s.2)
@@ -383,58 +383,31 @@ more_bytes rs i r lt = omega (arith, length-flat_map-take (λ x. replicate x.cou
 
 -- ---- grouping
 
-AreRuns-more : (last : Option ℕ) (rs : List Run) (b n m : ℕ) → AreRunsAfter last (rs ++ run_of b n ∷ []) → 0 < m → m < 2 ^ 32 → AreRunsAfter last (rs ++ run_of b m ∷ [])
-AreRuns-more last [] b n m h pos fits = (h.0, pos, fits, h.3, tt)
-AreRuns-more last (r ∷ rs) b n m h pos fits = (h.0, h.1, h.2, h.3, AreRuns-more (Some r.byte) rs b n m h.4 pos fits)
-
 bytes-push : (rs : List Run) (r : Run) → bytes_of (rs ++ r ∷ []) ≡ bytes_of rs ++ replicate r.count r.byte
 bytes-push rs r = flat_map-append (λ x. replicate x.count x.byte) rs (r ∷ []) ∙ ap (λ t. bytes_of rs ++ t) (flat_map-cons (λ x. replicate x.count x.byte) r [] ∙ append-nil _)
 
--- the runs of the bytes so far, the last of which may still grow
-pub record Grouped (bytes : List ℕ) (i : ℕ) (rs : List Run) (last : Option Run) : Type 0 where
-  pub runs : AreRuns (rs ++ option_to_list last)
-  pub bytes_are : take i bytes ≡ bytes_of (rs ++ option_to_list last)
-  pub empty : last ≡ None → rs ≡ []
+-- the runs of the first bytes, and the next byte begins another
+pub record Grouped (bytes : List ℕ) (i : ℕ) (rs : List Run) : Type 0 where
+  pub within : i ≤ length bytes
+  pub runs : AreRuns rs
+  pub bytes_are : take i bytes ≡ bytes_of rs
+  pub next : i < length bytes → last_after None rs ≢ Some (get_or bytes i 0)
 
-pub count_fits : (bytes : List ℕ) (i : ℕ) (rs : List Run) (r : Run) → i < length bytes → Grouped bytes i rs (Some r) → r.count ≤ i
-count_fits bytes i rs r lt g =
-    omega (arith, length-take i bytes, ap (λ (xs : List ℕ). length xs) g.bytes_are, ap (λ (xs : List ℕ). length xs) (bytes-push rs r), length-append (bytes_of rs) (replicate r.count r.byte), length-replicate r.count r.byte)
+-- a stretch that ends before another byte has one at least
+some_of : (bytes : List ℕ) (i n : ℕ) → i < length bytes → (n < length (drop i bytes) → get_or (drop i bytes) n 0 ≢ get_or bytes i 0) → 0 < n
+some_of bytes i zero lt end = absurd (end (omega (arith, length-drop i bytes)) (get_or-drop i bytes 0 0 ∙ ap (λ k. get_or bytes k 0) (let e : i + 0 ≡ i = omega arith in e)))
+some_of bytes i (suc n) lt end = omega arith
 
-pub grows : (bytes : List ℕ) (i : ℕ) (rs : List Run) (b n : ℕ) → i < length bytes → length bytes < 2 ^ 32 → Grouped bytes i rs (Some (run_of b n)) → b ≡ get_or bytes i 0 → Grouped bytes (i + 1) rs (Some (run_of b (n + 1)))
-grows bytes i rs b n lt small g e =
-    let le = count_fits bytes i rs (run_of b n) lt g in
-    record {
-      runs = AreRuns-more None rs b n (n + 1) g.runs (omega arith) (omega arith);
-      bytes_are = take_more bytes i 0 lt ∙ ap (λ t. t ++ get_or bytes i 0 ∷ []) (g.bytes_are ∙ bytes-push rs (run_of b n)) ∙ ap (λ x. (bytes_of rs ++ replicate n b) ++ x ∷ []) (sym e)
-          ∙ append_assoc (bytes_of rs) (replicate n b) (b ∷ []) ∙ ap (λ t. bytes_of rs ++ t) (replicate_more n b) ∙ sym (bytes-push rs (run_of b (n + 1)));
-      empty = λ f. absurd cc;
+-- a stretch of the next byte is one more run
+pub group_step : (bytes : List ℕ) (i n : ℕ) (rs : List Run) → i < length bytes → get_or bytes i 0 < 256 → n < 2 ^ 32 → n ≤ length (drop i bytes) → take n (drop i bytes) ≡ replicate n (get_or bytes i 0)
+    → (n < length (drop i bytes) → get_or (drop i bytes) n 0 ≢ get_or bytes i 0) → Grouped bytes i rs → Grouped bytes (i + n) (rs ++ run_of (get_or bytes i 0) n ∷ [])
+group_step bytes i n rs lt small fits within same end g =
+    let b : ℕ = get_or bytes i 0 in record {
+      within = omega (arith, length-drop i bytes);
+      runs = AreRuns-push None rs (run_of b n) g.runs small (some_of bytes i n lt end) fits (g.next lt);
+      bytes_are = take-add i n bytes ∙ ap (λ (xs : List ℕ). xs ++ take n (drop i bytes)) g.bytes_are ∙ ap (λ (xs : List ℕ). bytes_of rs ++ xs) same ∙ sym (bytes-push rs (run_of b n));
+      next = λ more e.
+          let f : Some b ≡ Some (get_or bytes (i + n) 0) = sym (last_after-push None rs (run_of b n)) ∙ e in
+          let same_byte : get_or bytes (i + n) 0 ≡ b = cc in
+          end (omega (arith, length-drop i bytes)) (get_or-drop i bytes n 0 ∙ same_byte);
     }
-
-pub begins : (bytes : List ℕ) (i : ℕ) (rs : List Run) (last : Option Run) (b : ℕ) → i < length bytes → Grouped bytes i rs last → b ≡ get_or bytes i 0 → b < 256 → last_after None (rs ++ option_to_list last) ≢ Some b → Grouped bytes (i + 1) (rs ++ option_to_list last) (Some (run_of b 1))
-begins bytes i rs last b lt g e small new = record {
-  runs = AreRuns-push None (rs ++ option_to_list last) (run_of b 1) g.runs small (omega arith) (omega arith) new;
-  bytes_are = take_more bytes i 0 lt ∙ ap (λ t. t ++ get_or bytes i 0 ∷ []) g.bytes_are ∙ ap (λ x. bytes_of (rs ++ option_to_list last) ++ x ∷ []) (sym e) ∙ sym (bytes-push (rs ++ option_to_list last) (run_of b 1));
-  empty = λ f. absurd cc;
-}
-
-pub grow_step : (bytes : List ℕ) (i : ℕ) (rs : List Run) (last after : Option Run) (r : Run) → i < length bytes → length bytes < 2 ^ 32 → Grouped bytes i rs last → last ≡ Some r → r.byte ≡ get_or bytes i 0
-    → after ≡ Some (run_of (get_or bytes i 0) (r.count + 1)) → Grouped bytes (i + 1) rs after
-grow_step bytes i rs last after r lt small g is same now =
-    let h = subst (λ (o : Option Run). Grouped bytes i rs o) (is ∙ ap (λ b. Some (run_of b r.count)) same) g in
-    subst (λ (o : Option Run). Grouped bytes (i + 1) rs o) (sym now) (grows bytes i rs (get_or bytes i 0) r.count lt small h refl)
-
-pub next_step : (bytes : List ℕ) (i : ℕ) (rs ss : List Run) (last after : Option Run) (r : Run) → i < length bytes → get_or bytes i 0 < 256 → Grouped bytes i rs last → last ≡ Some r → (r.byte ≡ get_or bytes i 0 → ⊥)
-    → ss ≡ rs ++ r ∷ [] → after ≡ Some (run_of (get_or bytes i 0) 1) → Grouped bytes (i + 1) ss after
-next_step bytes i rs ss last after r lt small g is other pushed now =
-    let h = subst (λ (o : Option Run). Grouped bytes i rs o) is g in
-    let new : last_after None (rs ++ r ∷ []) ≢ Some (get_or bytes i 0) = λ e. let f : Some r.byte ≡ Some (get_or bytes i 0) = sym (last_after-push None rs r) ∙ e in other cc in
-    let made = begins bytes i rs (Some r) (get_or bytes i 0) lt h refl small new in
-    subst (λ (p : List Run × Option Run). Grouped bytes (i + 1) p.0 p.1) (let e : (rs ++ r ∷ [], Some (run_of (get_or bytes i 0) 1)) ≡ (ss, after) = cc in e) made
-
-pub first_step : (bytes : List ℕ) (i : ℕ) (rs : List Run) (last after : Option Run) → i < length bytes → get_or bytes i 0 < 256 → Grouped bytes i rs last → last ≡ None
-    → after ≡ Some (run_of (get_or bytes i 0) 1) → Grouped bytes (i + 1) rs after
-first_step bytes i rs last after lt small g is now =
-    let nil = g.empty is in
-    let h = subst (λ (p : List Run × Option Run). Grouped bytes i p.0 p.1) (let e : (rs, last) ≡ ([], None) = cc in e) g in
-    let made = begins bytes i [] None (get_or bytes i 0) lt h refl small (λ e. absurd cc) in
-    subst (λ (p : List Run × Option Run). Grouped bytes (i + 1) p.0 p.1) (let e : ([], Some (run_of (get_or bytes i 0) 1)) ≡ (rs, after) = cc in e) made

@@ -9,3 +9,4 @@ pub mod Scan
 pub mod RunsAnswers
 pub mod Bytes
 pub mod Stripes
+pub mod Limits

@@ -10,10 +10,10 @@ IsBad text (Bad at) = IsFirstFault IsSpelling text at
 IsBad text TooLong = ⊥
 IsBad text NoMemory = Unit {0}
 
-abbrev pub IsFault : List ℕ → ℕ → RunsError → Type 0
-IsFault text most (Bad at) = IsFirstFault IsSpelling text at
-IsFault text most TooLong = (bytes : List ℕ) × Spells text bytes × (most < length bytes)
-IsFault text most NoMemory = Unit {0}
+abbrev pub IsRunsFault : List ℕ → ℕ → RunsError → Type 0
+IsRunsFault text most (Bad at) = IsFirstFault IsSpelling text at
+IsRunsFault text most TooLong = (bytes : List ℕ) × Spells text bytes × (most < length bytes)
+IsRunsFault text most NoMemory = Unit {0}
 
 abbrev pub IsNoMemory : RunsError → Type 0
 IsNoMemory (Bad at) = ⊥

@@ -20,7 +20,8 @@ pub fn put_decimal(out: &mut Vec<u8>, n: u64) -> Result<(), NoMemory>
     Ok(())
 }
 
-fn digit_glyph(digit: u8) -> u8
+/// The lower-case hexadecimal digit.
+pub(crate) fn digit_glyph(digit: u8) -> u8
     requires { digit < 16 }
     ensures { result ≡ digit_glyph false digit }
 {

@@ -11,7 +11,8 @@ pub struct Failed;
 pub trait Source {
     /// The bytes that are left, where the source tells them.
     ghost left: { Self → Option (List ℕ) };
-    /// How often it has failed, up to 2^64 - 1, where the count stands still.
+    /// How often it has answered that it failed, up to 2^64 - 1, where the count stands still. What an
+    /// end gets over by itself isn't counted.
     ghost faults: { Self → ℕ };
 
     /// Reads from the front of what is left, at most as many bytes as the buffer has. 0 for a buffer
@@ -26,7 +27,8 @@ pub trait Source {
 pub trait Sink {
     /// The bytes taken so far, where the sink tells them.
     ghost taken: { Self → Option (List ℕ) };
-    /// How often it has failed, up to 2^64 - 1, where the count stands still.
+    /// How often it has answered that it failed, up to 2^64 - 1, where the count stands still. What an
+    /// end gets over by itself isn't counted.
     ghost faults: { Self → ℕ };
 
     /// Takes a front of the piece, and nothing only of an empty piece. A failure takes nothing, and

@@ -1,4 +1,4 @@
-ghost use Rattle.std.specs.Prelude.{◌≡◌, ◌≤◌, ◌<◌, length, IfOk, Err};
+ghost use Rattle.std.specs.Prelude.{◌≡◌, ◌≢◌, ◌≤◌, ◌<◌, length, IfOk, Err};
 ghost use Rattle.flr_base.specs.Causes.{HasCause, Rose};
 ghost use Rattle.flr_base.specs.Streams.{WritesFront, ReadsWhole, ReadsSome, IsLonger};
 
@@ -23,6 +23,7 @@ pub fn read_all<S: Source>(alloc: Global, source: &mut S, most: u32) -> Result<O
     ensures within { IfOk result (λ bytes. length bytes ≤ most) }
     ensures long { result ≡ Err ReadError.TooLong → IsLonger (S.left source.old) most }
     ensures later { S.faults source.old ≤ S.faults source.new }
+    ensures kept { result ≢ Err ReadError.Failed → S.faults source.new ≡ S.faults source.old }
     // Memory is wanted for bytes that were read alone, and for no more than `most`: what is known to be
     // too long, and an empty source, never lack memory.
     ensures memory { result ≡ Err ReadError.NoMemory → ReadsSome (S.left source.old) (S.left source.new) most }

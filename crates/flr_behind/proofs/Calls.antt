@@ -14,7 +14,8 @@ use Rattle.meta_server.specs.Conditions.{IsCopyOf}
 use Rattle.meta_server.specs.Ending.{both_given, with_done, with_merge}
 use Rattle.meta_server.specs.Files.{File, MetaView, changed, file_named, file_of, with_break, with_change, with_file, with_freed, with_given, with_layout, with_share}
 use Rattle.meta_server.specs.Layouts.{begun, extended, finished, flagged, intended, lessened, merged, split_off}
-use Rattle.meta_server.specs.Opening.{change_opens_file, most_bytes, with_intent}
+use Rattle.flr_base.specs.Limits.{most_bytes}
+use Rattle.meta_server.specs.Opening.{change_opens_file, with_intent}
 use Rattle.meta_server.specs.Sound.{IsSound}
 use Rattle.meta_server.proofs.Going.{name_found}
 use Rattle.meta_server.proofs.Placing.{number_found}

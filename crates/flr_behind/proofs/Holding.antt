@@ -13,7 +13,8 @@ use Rattle.extent_lock.specs.Extents.{blocker}
 use Rattle.meta_server.specs.declared.answers.Opened.{Opened}
 use Rattle.meta_server.specs.Closing.{confirms, holds, is_there, last_eviction}
 use Rattle.meta_server.specs.Files.{File, file_named}
-use Rattle.meta_server.specs.Opening.{cut_opens, most_bytes, opened, write_opens}
+use Rattle.flr_base.specs.Limits.{most_bytes}
+use Rattle.meta_server.specs.Opening.{cut_opens, opened, write_opens}
 use Rattle.meta_server.specs.Outcomes.{Gives, Refuses, Waits}
 use Rattle.meta_server.specs.Outcomes as meta
 use Rattle.meta_server.specs.Sound.{IsSound}

@@ -15,7 +15,7 @@ use Rattle.meta_server.specs.Files.{File, MetaView, file_named, file_of, same_na
 use Rattle.meta_server.specs.Layouts.{intended}
 use Rattle.meta_server.specs.Opening.{change_opens_file, opened, with_intent}
 use Rattle.meta_server.specs.Outcomes.{Outcome, Gives, Refuses, Waits}
-use Rattle.meta_server.specs.Sound.{IsCopied, IsCovered, IsSound}
+use Rattle.meta_server.specs.Sound.{IsUnderCopy, IsCovered, IsSound}
 use Rattle.meta_server.proofs.Going.{name_found}
 use Rattle.meta_laws.proofs.Copies.{there_named}
 use Rattle.meta_laws.proofs.Finding.{found_keeps, same_found}
@@ -40,19 +40,19 @@ found_holds p P (y ∷ ys) x e h = by (p y) e (λ k. found_holds p P ys x k h.1)
     by false e rest = rest e
 
 -- while the lease of a file stands a copy of it is under way
-copied : (m : MetaView) (key : KeyView) → IsSound m → state_of m.leases key ≡ Held → IsCopied (file_of key.file m.files)
+copied : (m : MetaView) (key : KeyView) → IsSound m → state_of m.leases key ≡ Held → IsUnderCopy (file_of key.file m.files)
 copied m key h held = by (find (is_key key) m.leases.keys) refl held
   where
-    by : (o : Option Lease) → find (is_key key) m.leases.keys ≡ o → option_map_or (λ (lease : Lease). lease.state) o (Broken 0) ≡ Held → IsCopied (file_of key.file m.files)
+    by : (o : Option Lease) → find (is_key key) m.leases.keys ≡ o → option_map_or (λ (lease : Lease). lease.state) o (Broken 0) ≡ Held → IsUnderCopy (file_of key.file m.files)
     by None is e = absurd (cc)
     by (Some lease) is e =
-        subst (λ n. IsCopied (file_of n m.files)) (same_file key lease (find_passes (is_key key) m.leases.keys lease is))
+        subst (λ n. IsUnderCopy (file_of n m.files)) (same_file key lease (find_passes (is_key key) m.leases.keys lease is))
         (found_holds (is_key key) (IsCovered m.files) m.leases.keys lease is h.covered (ap is_unbroken e))
 
 -- so no range of it is ready for a write
 unleased_ready : (m : MetaView) (f : File) (range : Range) (key : KeyView) → IsSound m → file_of f.number m.files ≡ Some f → is_ready f.layout range ≡ true → key.file ≡ f.number → state_of m.leases key ≡ Held → ⊥
 unleased_ready m f range key h here ready own held =
-    let state : f.layout.state ≡ states.SyncPending = subst IsCopied (ap (λ n. file_of n m.files) own ∙ here) (copied m key h held) in
+    let state : f.layout.state ≡ states.SyncPending = subst IsUnderCopy (ap (λ n. file_of n m.files) own ∙ here) (copied m key h held) in
     let takes : takes_writes f.layout.state ≡ true = first_of (takes_writes f.layout.state) _ ready in
     true≢false (sym takes ∙ ap takes_writes state)
 

@@ -23,7 +23,8 @@ use Rattle.meta_server.specs.Outcomes.{Gives, Refuses, Waits}
 use Rattle.meta_server.specs.Outcomes as meta
 use Rattle.meta_laws.specs.Calls.{Call, Create, Evict, Remove, Set, after_call, left_by}
 use Rattle.meta_growth.specs.Growth.{stripes_of_call}
-use Rattle.mirror_admin.specs.OneStep.{answered, default_name, one_step, shows}
+use Rattle.lfs_words.specs.Naming.{default_name}
+use Rattle.mirror_admin.specs.OneStep.{answered, one_step, shows}
 use Rattle.mirror_admin.specs.Rotting.{is_kept, with_rot}
 use Rattle.mirror_verify.specs.Verifies.{new_verify, verify_step}
 use Rattle.mirror_verify.specs.Views.{VerifyView}

@@ -64,7 +64,7 @@ VerifySays m byte verify.Open = Unit {0}
 -- ---- copies
 
 -- the component is the destination at this place, which isn't left
-pub record IsDestination (x : CopyingView) (place : ℕ) (d : Component) : Type 0 where
+pub record IsKeptDestination (x : CopyingView) (place : ℕ) (d : Component) : Type 0 where
   pub within : place < length x.destinations
   pub kept : is_kept (destination_at x.destinations place) ≡ true
   pub listed : Contains x.side.layout.components d
@@ -79,15 +79,15 @@ abbrev pub IsCopiedTo : Servers → (ℕ → ℕ) → Component → ℕ → Type
 IsCopiedTo s byte d end = (x : ℕ) → IsOf d x → ((x < end → held (content s) d x ≡ byte x) × (end ≤ x → held (content s) d x ≡ 0))
 
 -- the component holds the file's bytes
-abbrev pub IsCopied : Servers → (ℕ → ℕ) → Component → Type 0
-IsCopied s byte d = (x : ℕ) → IsOf d x → held (content s) d x ≡ byte x
+abbrev pub HoldsFile : Servers → (ℕ → ℕ) → Component → Type 0
+HoldsFile s byte d = (x : ℕ) → IsOf d x → held (content s) d x ≡ byte x
 
 -- while the lease stands: past the settled size the file has no bytes in a destination that isn't left; each of these before the one in hand is copied, the one in hand up to the chunk in hand, and the later ones are empty
 pub record AreCopied (s : Servers) (byte : ℕ → ℕ → ℕ) (h : Chunk) : Type 0 where
-  pub past : (place : ℕ) (d : Component) (x : ℕ) → IsDestination h.copying place d → IsOf d x → h.size ≤ x → byte h.copying.side.key.file x ≡ 0
-  pub before : (place : ℕ) (d : Component) → IsDestination h.copying place d → place < h.place → IsCopied s (byte h.copying.side.key.file) d
-  pub here : (d : Component) → IsDestination h.copying h.place d → IsCopiedTo s (byte h.copying.side.key.file) d (chunk_start h.number)
-  pub behind : (place : ℕ) (d : Component) → IsDestination h.copying place d → h.place < place → IsCopiedTo s (byte h.copying.side.key.file) d 0
+  pub past : (place : ℕ) (d : Component) (x : ℕ) → IsKeptDestination h.copying place d → IsOf d x → h.size ≤ x → byte h.copying.side.key.file x ≡ 0
+  pub before : (place : ℕ) (d : Component) → IsKeptDestination h.copying place d → place < h.place → HoldsFile s (byte h.copying.side.key.file) d
+  pub here : (d : Component) → IsKeptDestination h.copying h.place d → IsCopiedTo s (byte h.copying.side.key.file) d (chunk_start h.number)
+  pub behind : (place : ℕ) (d : Component) → IsKeptDestination h.copying place d → h.place < place → IsCopiedTo s (byte h.copying.side.key.file) d 0
 
 abbrev pub CopiedSoFar : Servers → (ℕ → ℕ → ℕ) → Chunk → Type 0
 CopiedSoFar s byte h = state_of s.meta.leases h.copying.side.key ≡ Held → AreCopied s byte h
@@ -100,7 +100,7 @@ IsInHand s byte h bytes = state_of s.meta.leases h.copying.side.key ≡ Held →
 abbrev pub ClearsCopied : Servers → (ℕ → ℕ → ℕ) → KeyView → List ℕ → Type 0
 ClearsCopied s byte key cleared =
     state_of s.meta.leases key ≡ Held →
-    (cleared ≡ []) ⊎ ((x : CopyingView) × (x.side.key ≡ key) × Leases s.meta key x.side.layout × (cleared ≡ cleared_of x.destinations) × ((place : ℕ) (d : Component) → IsDestination x place d → IsCopied s (byte key.file) d))
+    (cleared ≡ []) ⊎ ((x : CopyingView) × (x.side.key ≡ key) × Leases s.meta key x.side.layout × (cleared ≡ cleared_of x.destinations) × ((place : ℕ) (d : Component) → IsKeptDestination x place d → HoldsFile s (byte key.file) d))
 
 abbrev pub StageSays : Servers → (ℕ → ℕ → ℕ) → CopyStage → Type 0
 StageSays s byte (stage.Fence x next) = Unit {0}

@@ -1,7 +1,7 @@
 -- What the parts of a copy are to one another, whatever bytes there are.
 use Rattle.std.specs.Prelude.{◌≡◌, ℕ, ◌<◌, ◌≤◌, true, length, get_or, Some}
 use Rattle.std.specs.List.{AllByRecursion}
-use Rattle.meta_server.specs.Opening.{most_bytes}
+use Rattle.flr_base.specs.Limits.{most_bytes}
 use Rattle.resync_copy.specs.declared.merge_phase.MergeStage.{MergeStage}
 use Rattle.resync_copy.specs.declared.merge_phase.MergeStage.TheVariants as merge
 use Rattle.resync_copy.specs.declared.phase.Chunk.{Chunk}
@@ -11,7 +11,7 @@ use Rattle.resync_copy.specs.declared.phase.CopyStage.{CopyStage}
 use Rattle.resync_copy.specs.declared.phase.CopyStage.TheVariants as stage
 use Rattle.resync_copy.specs.Chunks.{chunk_of}
 use Rattle.resync_copy.specs.Copies.{destination_of}
-use Rattle.resync_copy.specs.Fitting.{HasSource, IsDestination}
+use Rattle.resync_copy.specs.Fitting.{HasSource, HasItsObjects}
 use Rattle.resync_copy.specs.MergeFitting.{HasObjects}
 use Rattle.resync_copy.specs.Merges.{our_source, their_source}
 use Rattle.resync_copy.specs.Parts.{is_kept}
@@ -23,7 +23,7 @@ use Rattle.flr_steps.specs.States.{State, client_at}
 
 -- each id is that of a component of the layout that has its objects, and none is there twice
 pub record AreFit (x : CopyingView) : Type 0 where
-  pub made : AllByRecursion (IsDestination x.side.layout.components) x.ids
+  pub made : AllByRecursion (HasItsObjects x.side.layout.components) x.ids
   pub once : (i j : ℕ) → i < length x.ids → j < length x.ids → get_or x.ids i 0 ≡ get_or x.ids j 0 → i ≡ j
 
 -- the settled size isn't too big, and the chunk is one of a destination that isn't left, from its first chunk on

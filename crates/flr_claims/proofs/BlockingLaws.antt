@@ -1,5 +1,5 @@
 -- The next step of a client is blocked exactly where somebody is in the way of what it needs.
-use Rattle.std.proofs.Common.{◌≡◌, ℕ, List, refl, sym, ap, ◌∙◌}
+use Rattle.std.proofs.Common.{◌≡◌, ℕ, List, [], refl, sym, ap, ◌∙◌}
 use Rattle.std.specs.Prelude.{Option, Some, None}
 use Rattle.flr_base.specs.declared.reply.Reply.{Reply}
 use Rattle.flr_base.specs.declared.reply.Reply.TheVariants as reply
@@ -19,7 +19,8 @@ use Rattle.call_steps.specs.Steps.{Outcome, Going, Fixed, Ended, Answered, Block
 use Rattle.client_read.specs.Reads.{new_read, read_step}
 use Rattle.client_write.specs.Truncates.{new_truncate, truncate_step}
 use Rattle.client_write.specs.Writes.{new_write, write_step}
-use Rattle.mirror_admin.specs.OneStep.{answered, default_name, shows, splits}
+use Rattle.lfs_words.specs.Naming.{default_name}
+use Rattle.mirror_admin.specs.OneStep.{answered, shows, splits}
 use Rattle.mirror_verify.specs.Verifies.{new_verify, verify_step}
 use Rattle.resync_copy.specs.Copies.{new_copy}
 use Rattle.resync_copy.specs.Steps.{copy_step}
@@ -37,9 +38,10 @@ use Rattle.flr_steps.specs.States.{State, Next, client_at, next, next_by, next_f
 use Rattle.flr_steps.specs.States as states
 use Rattle.flr_steps.specs.Owners.{IsOwn}
 use Rattle.flr_steps.proofs.OwnCalls.{calls_are_own}
-use Rattle.flr_claims.specs.Blocking.{BlockedWhereWaiting, IsWaiting, in_way_of, needs_of, split_to_needs}
+use Rattle.flr_claims.specs.Blocking.{BlockedWhereWaiting, IsWaiting, changed_by, in_way_of, needs_of, unless}
+use Rattle.flr_claims.specs.Refusals.{lfs_refusal}
 use Rattle.flr_claims.proofs.CallWaits.{copy_waits, cut_waits, held_up, held_widen, read_waits, verify_waits, write_waits}
-use Rattle.flr_claims.proofs.MetaWaits.{create_waits, delete_waits, set_waits, split_waits, waits}
+use Rattle.flr_claims.proofs.MetaWaits.{create_waits, delete_waits, set_waits, split_waits, waits, waits_for_nobody}
 
 -- ---- commands of one step
 
@@ -61,7 +63,10 @@ module _ (c place : ℕ) (s : Servers) where
   show_waits name None = refl
   show_waits name (Some f) = refl
 
-  split_to_waits : (name : List ℕ) (mirror : ℕ) (to : SplitTo) → held_up (answered_by s (splits c place s.meta name mirror to)) ≡ in_way_of s c (split_to_needs name mirror to s.meta.files)
+  abbrev lfs_needs : LfsCommand → Option ℕ
+  lfs_needs of = in_way_of s c (unless (lfs_refusal of s.meta) (changed_by of s.meta.files))
+
+  split_to_waits : (name : List ℕ) (mirror : ℕ) (to : SplitTo) → held_up (answered_by s (splits c place s.meta name mirror to)) ≡ lfs_needs (lfs.Split name mirror to)
   split_to_waits name mirror split.Default =
       let new = default_name name mirror in
       by_meta (reply.Split new) (removes c name mirror (Some new) place s.meta) ∙ split_waits s c mirror place s.meta name new (file_named name s.meta.files)
@@ -69,6 +74,10 @@ module _ (c place : ℕ) (s : Servers) where
       by_meta (reply.Split new) (removes c name mirror (Some new) place s.meta) ∙ split_waits s c mirror place s.meta name new (file_named name s.meta.files)
   split_to_waits name mirror split.Destroy =
       by_meta (reply.Removed mirror) (removes c name mirror None place s.meta) ∙ delete_waits s c mirror place s.meta name (file_named name s.meta.files)
+
+  -- a command that changes no layout in place
+  waits_no_more : (of : LfsCommand) (o : meta.Outcome Reply) → changed_by of s.meta.files ≡ [] → held_up (answered_by s o) ≡ None → held_up (answered_by s o) ≡ lfs_needs of
+  waits_no_more of o none is = is ∙ sym (ap (λ (fs : List File). in_way_of s c (unless (lfs_refusal of s.meta) fs)) none ∙ waits_for_nobody s c (lfs_refusal of s.meta))
 
   -- the call that a command begins, or the command of one step
   abbrev WaitsNow : Running → Command → Type 0
@@ -90,9 +99,11 @@ module _ (c place : ℕ) (s : Servers) where
   copy_now k asked own = held_widen running.Copy (copy_step k place s) ∙ copy_waits k s c k.at own.0 own.1
 
   lfs_now : (of : LfsCommand) → WaitsNow (call_now c running.Idle (command.Lfs of)) (command.Lfs of)
-  lfs_now (lfs.SetStripe name spec) = by_meta reply.Created (creates name spec s.meta) ∙ create_waits name spec s.meta (file_named name s.meta.files)
-  lfs_now (lfs.Create name spec) = by_meta reply.Created (creates name spec s.meta) ∙ create_waits name spec s.meta (file_named name s.meta.files)
-  lfs_now (lfs.GetStripe name) = show_waits name (file_named name s.meta.files)
+  lfs_now (lfs.SetStripe name spec) =
+      waits_no_more (lfs.SetStripe name spec) (answered reply.Created (creates name spec s.meta)) refl (by_meta reply.Created (creates name spec s.meta) ∙ create_waits name spec s.meta (file_named name s.meta.files))
+  lfs_now (lfs.Create name spec) =
+      waits_no_more (lfs.Create name spec) (answered reply.Created (creates name spec s.meta)) refl (by_meta reply.Created (creates name spec s.meta) ∙ create_waits name spec s.meta (file_named name s.meta.files))
+  lfs_now (lfs.GetStripe name) = waits_no_more (lfs.GetStripe name) (shows name s.meta (file_named name s.meta.files)) refl (show_waits name (file_named name s.meta.files))
   lfs_now (lfs.CompSet name id change) = by_meta reply.Set (sets c name id change place s.meta) ∙ set_waits s c id change place s.meta name (file_named name s.meta.files)
   lfs_now (lfs.Split name mirror to) = split_to_waits name mirror to
   lfs_now (lfs.Delete name mirror) = by_meta (reply.Removed mirror) (removes c name mirror None place s.meta) ∙ delete_waits s c mirror place s.meta name (file_named name s.meta.files)

@@ -19,7 +19,8 @@ use Rattle.meta_server.specs.declared.answers.Begun.TheVariants as begun
 use Rattle.meta_server.specs.declared.answers.Opened.{Opened}
 use Rattle.meta_server.specs.Ending.{copy_ends, merge_ends}
 use Rattle.meta_server.specs.Files.{File, file_named, file_of}
-use Rattle.meta_server.specs.Opening.{cut_opens, most_bytes, write_opens}
+use Rattle.flr_base.specs.Limits.{most_bytes}
+use Rattle.meta_server.specs.Opening.{cut_opens, write_opens}
 use Rattle.meta_server.specs.Outcomes.{Ending, Ends, Breaks, Holds, Gives, Refuses, Waits}
 use Rattle.meta_server.specs.Outcomes as meta
 use Rattle.mirror_select.specs.declared.types.Piece.{Piece}
@@ -304,6 +305,6 @@ module _ (c : CopyView) (s : Servers) where
   pub copy_waits : (client : ℕ) (at : CopyAt) → c.client ≡ client → AreOwn client (copy_keys at) → held_up (copy_at at c s) ≡ in_way_of s client (copy_needs c at s)
   copy_waits client copying.Begin own keys =
       begin_by_outcome (copy_begins c.client c.name c.what s.meta) ∙ begin_waits s c.client s.meta c.name c.what (file_named c.name s.meta.files)
-      ∙ ap (λ (n : ℕ). in_way_of s n (begin_needs s.meta c.what (file_named c.name s.meta.files))) own
+      ∙ ap (λ (n : ℕ). in_way_of s n (begin_needs c.name s.meta c.what (file_named c.name s.meta.files))) own
   copy_waits client (copying.Copy next) own keys = stage_waits client next own keys
   copy_waits client (copying.Merge next) own keys = merge_stage_waits client next own keys

@@ -43,7 +43,8 @@ use Rattle.client_read.specs.Views.{ReadView}
 use Rattle.client_write.specs.Calls.{TruncateView, WriteView}
 use Rattle.client_write.specs.Truncates as cut
 use Rattle.client_write.specs.Writes as write
-use Rattle.mirror_admin.specs.OneStep.{answered, default_name, shows, splits}
+use Rattle.lfs_words.specs.Naming.{default_name}
+use Rattle.mirror_admin.specs.OneStep.{answered, shows, splits}
 use Rattle.mirror_admin.specs.Rotting.{is_kept, rot_reply, with_rot}
 use Rattle.mirror_verify.specs.Verifies as verify
 use Rattle.mirror_verify.specs.Views.{VerifyView}
@@ -54,7 +55,7 @@ use Rattle.flr_steps.specs.declared.client.Running.{Running}
 use Rattle.flr_steps.specs.declared.client.Running.TheVariants as running
 use Rattle.flr_steps.specs.Clients.{call_now}
 use Rattle.flr_steps.specs.Commands.{answered_by, step_of}
-use Rattle.plain_files.specs.Effects.{most_bytes}
+use Rattle.flr_base.specs.Limits.{most_bytes}
 use Rattle.flr_claims.specs.Refusals.{IsSuccess, RefusedExactly, RefusesBy, RefusesNone, busy, change_refusal, delete_refusal, extend_refusal, flags_refused, make_refusal, merge_refusal, plain_refusal, read_refusal, refused_if, refusal_for, resync_refusal, split_refusal, split_to_refusal, victim_refusal}
 
 -- ---- the metadata server

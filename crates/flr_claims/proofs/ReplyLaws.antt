@@ -1,5 +1,5 @@
 -- Which answers a command has.
-use Rattle.std.proofs.Common.{◌≡◌, ◌⊎◌, ◌<◌, ◌+◌, ℕ, Bool, true, false, not, ◌&&◌, cond, nat_lt, List, [], length, map, subst, sym, ap, inl, inr, arith}
+use Rattle.std.proofs.Common.{◌≡◌, ◌⊎◌, ◌<◌, ◌+◌, ℕ, Bool, true, false, not, ◌&&◌, cond, nat_lt, List, [], length, map, subst, inl, inr, arith}
 use Rattle.std.specs.Prelude.{Option, Some, None, option_map, is_none, is_some}
 use Rattle.std.specs.Option.{option_or}
 use Rattle.flr_base.specs.declared.reply.FailedCall.{FailedCall}

@@ -1,36 +1,26 @@
 -- Blocked: whom a client waits for.
-use Rattle.std.specs.Prelude.{◌≡◌, ◌↔◌, ℕ, ◌==◌, Bool, true, false, not, ◌&&◌, nat_lt, is_none, is_some, Option, None, Some, option_map, List, [], ◌∷◌, length, map}
+use Rattle.std.specs.Prelude.{◌≡◌, ◌↔◌, ℕ, ◌==◌, Bool, true, false, nat_lt, Option, None, Some, option_map, List, [], ◌∷◌, ◌++◌, length, map}
 use Rattle.std.specs.Option.{option_or}
 use Rattle.flr_base.specs.declared.reply.ObjectId.{ObjectId}
 use Rattle.flr_base.specs.declared.reply.Range.{Range}
 use Rattle.flr_base.specs.declared.reply.Reply.{Reply}
 use Rattle.composite_layout.specs.Choices.{is_ready}
-use Rattle.composite_layout.specs.declared.spec.MirrorSpec.{MirrorSpec}
-use Rattle.composite_layout.specs.FlagChanges.{FlagSets}
 use Rattle.composite_layout.specs.Layouts.{eof}
-use Rattle.composite_layout.specs.LookUps.{mirror_ids, wholly_fresh}
-use Rattle.composite_layout.specs.Making.{part_count}
 use Rattle.extent_lock.specs.declared.lock.Lock.{Lock}
 use Rattle.extent_lock.specs.Extents.{blocker, writer_but}
 use Rattle.layout_lease.specs.declared.lease.KeyState.{KeyState}
 use Rattle.layout_lease.specs.declared.lease.KeyState.TheVariants.{Broken, Held}
-use Rattle.layout_lease.specs.Leases.{holder_of, state_of}
+use Rattle.layout_lease.specs.Leases.{state_of}
 use Rattle.layout_lease.specs.Shares.{lowest_but}
-use Rattle.layout_state.specs.Choosing.{primary_of}
-use Rattle.layout_state.specs.Marking.{flags_refusal}
-use Rattle.layout_state.specs.Mirroring.{excess, keeping}
-use Rattle.layout_state.specs.Selecting.{absent_of, selected_of}
+use Rattle.layout_state.specs.Selecting.{selected_of}
 use Rattle.lfs_words.specs.declared.command.LfsCommand.{LfsCommand}
 use Rattle.lfs_words.specs.declared.command.LfsCommand.TheVariants as lfs
-use Rattle.lfs_words.specs.declared.command.SplitTo.{SplitTo}
-use Rattle.lfs_words.specs.declared.command.SplitTo.TheVariants as split
 use Rattle.script_values.specs.declared.command.Command.{Command}
 use Rattle.script_values.specs.declared.command.Command.TheVariants as command
 use Rattle.script_values.specs.Scripts.{command_after}
 use Rattle.meta_server.specs.declared.answers.CopyWhat.{CopyWhat}
 use Rattle.meta_server.specs.declared.answers.CopyWhat.TheVariants as what
-use Rattle.meta_server.specs.Files.{File, MetaView, file_named, file_of, is_full}
-use Rattle.meta_server.specs.Layouts.{offline_byte}
+use Rattle.meta_server.specs.Files.{File, MetaView, file_named, file_of}
 use Rattle.call_steps.specs.Pieces.{piece_at}
 use Rattle.call_steps.specs.Servers.{Servers}
 use Rattle.client_read.specs.declared.phase.ReadAt.{ReadAt}
@@ -59,7 +49,8 @@ use Rattle.flr_steps.specs.declared.client.Running.{Running}
 use Rattle.flr_steps.specs.declared.client.Running.TheVariants as running
 use Rattle.flr_steps.specs.Clients.{call_now}
 use Rattle.flr_steps.specs.States.{Blocked, IsRun, State, client_at, next}
-use Rattle.plain_files.specs.Effects.{default_name, most_bytes}
+use Rattle.flr_base.specs.Limits.{most_bytes}
+use Rattle.flr_claims.specs.Refusals.{change_refusal, extend_refusal, lfs_refusal, merge_refusal, resync_refusal}
 
 -- what a step needs of all other clients: that none shares the layout locks of these files; that no extent lock is in the way of these; that none writes to these objects; or nothing
 pub data Need : Type 0 where
@@ -95,58 +86,48 @@ in_way_of s client (Extents locks) = holder_told (first_in_way s.locks locks)
 in_way_of s client (Quiet objects) = holder_told (first_writer s.locks client objects)
 in_way_of s client Nothing = None
 
--- ---- steps that change a layout need it alone, where nothing refuses them
+-- ---- a step that changes layouts needs them alone, where nothing refuses it
 
-abbrev pub alone_if : Bool → List File → Need
-alone_if true files = Alone files
-alone_if false files = Nothing
+-- these files alone, unless the step is refused
+abbrev pub unless : Option Reply → List File → Need
+unless None files = Alone files
+unless (Some refusal) files = Nothing
 
--- the open of a write or a truncate makes an intent where the range isn't ready
-abbrev pub intent_needs : Range → Bool → Option File → Need
-intent_needs range too_big None = Nothing
-intent_needs range too_big (Some f) = alone_if (not too_big && (not (is_ready f.layout range) && is_some (primary_of range f.layout.components))) (f ∷ [])
+-- the file, if it is there
+abbrev pub there : Option File → List File
+there None = []
+there (Some f) = f ∷ []
 
--- a change of flags
-abbrev pub flags_needs : ℕ → FlagSets → Option File → Need
-flags_needs id change None = Nothing
-flags_needs id change (Some f) = alone_if (is_none (flags_refusal id change f.layout.components)) (f ∷ [])
+-- the file, unless its layout stays as it is
+abbrev pub changed_unless : Bool → File → List File
+changed_unless true f = []
+changed_unless false f = f ∷ []
 
--- a mirror that goes for good
-abbrev pub delete_needs : ℕ → Option File → Need
-delete_needs mirror None = Nothing
-delete_needs mirror (Some f) = alone_if (is_none (keeping mirror f.layout.components)) (f ∷ [])
+-- the open of a write or a truncate makes an intent in a file whose range isn't ready
+abbrev pub unready : Range → Option File → List File
+unready range None = []
+unready range (Some f) = changed_unless (is_ready f.layout range) f
 
--- a mirror that goes to a file of its own
-abbrev pub split_needs : ℕ → List ℕ → List File → Option File → Need
-split_needs mirror to files None = Nothing
-split_needs mirror to files (Some f) =
-    alone_if (is_none (keeping mirror f.layout.components) && (wholly_fresh mirror f.layout.components && (is_none (file_named to files) && not (is_full files)))) (f ∷ [])
+-- the begin of a resync marks a file in which there is something to copy
+abbrev pub selecting : Option (List ℕ) → Option File → List File
+selecting only None = []
+selecting only (Some f) = changed_unless (length (selected_of only f.layout.components) == 0) f
 
--- the begin of a resync that has something to copy
-abbrev pub resync_needs : Option (List ℕ) → MetaView → File → Need
-resync_needs only m f = alone_if (is_none (absent_of only f.layout.components) && (is_none (holder_of m.leases f.number) && not (length (selected_of only f.layout.components) == 0))) (f ∷ [])
+abbrev pub opening_needs : List ℕ → Range → Bool → Option File → Need
+opening_needs name range too_big file = unless (change_refusal name range too_big file) (unready range file)
 
--- the begin of an extend by copy
-abbrev pub extend_needs : List MirrorSpec → MetaView → File → Need
-extend_needs mirrors m f = alone_if (is_none (excess f.layout (length mirrors) (part_count mirrors) m.most) && is_none (holder_of m.leases f.number)) (f ∷ [])
+-- the files that a command of one step changes in place
+abbrev pub changed_by : LfsCommand → List File → List File
+changed_by (lfs.CompSet name id change) files = there (file_named name files)
+changed_by (lfs.Split name mirror to) files = there (file_named name files)
+changed_by (lfs.Delete name mirror) files = there (file_named name files)
+changed_by other files = []
 
--- the begin of an extend by a victim needs both files alone
-abbrev pub victim_needs : MetaView → File → Option File → Need
-victim_needs m f None = Nothing
-victim_needs m f (Some v) =
-    alone_if
-    (is_none (excess f.layout (length (mirror_ids v.layout.components)) (length v.layout.components) m.most)
-    && (is_none (holder_of m.leases f.number) && (is_none (holder_of m.leases v.number) && (is_none (offline_byte f.layout) && is_none (offline_byte v.layout)))))
-    (f ∷ v ∷ [])
-
-abbrev pub begin_on : MetaView → File → CopyWhat → Need
-begin_on m f (what.Resync only) = resync_needs only m f
-begin_on m f (what.Extend mirrors) = extend_needs mirrors m f
-begin_on m f (what.Victim victim) = victim_needs m f (file_named victim m.files)
-
-abbrev pub begin_needs : MetaView → CopyWhat → Option File → Need
-begin_needs m of None = Nothing
-begin_needs m of (Some f) = begin_on m f of
+-- the begin of a copy
+abbrev pub begin_needs : List ℕ → MetaView → CopyWhat → Option File → Need
+begin_needs name m (what.Resync only) file = unless (resync_refusal name only m file) (selecting only file)
+begin_needs name m (what.Extend mirrors) file = unless (extend_refusal name mirrors m file) (there file)
+begin_needs name m (what.Victim victim) file = unless (merge_refusal name victim m file) (there file ++ there (file_named victim m.files))
 
 -- the end of a copy whose lease stands
 abbrev pub done_needs : KeyState → Option File → Need
@@ -170,12 +151,12 @@ read_needs r (read_at.Lock x next) = Extents (read.lock_for r (piece_at x.pieces
 read_needs r other = Nothing
 
 abbrev pub write_needs : WriteView → WriteAt → Servers → Need
-write_needs w write_at.Open s = intent_needs (write.range_of w) (nat_lt most_bytes (write.range_of w).end) (file_named w.name s.meta.files)
+write_needs w write_at.Open s = opening_needs w.name (write.range_of w) (nat_lt most_bytes (write.range_of w).end) (file_named w.name s.meta.files)
 write_needs w (write_at.Lock x next) s = Extents (write.lock_for w (piece_at x.pieces next) ∷ [])
 write_needs w other s = Nothing
 
 abbrev pub cut_needs : TruncateView → CutAt → Servers → Need
-cut_needs t cut_at.Open s = intent_needs (record { start = t.size; end = eof }) (nat_lt most_bytes t.size) (file_named t.name s.meta.files)
+cut_needs t cut_at.Open s = opening_needs t.name (record { start = t.size; end = eof }) (nat_lt most_bytes t.size) (file_named t.name s.meta.files)
 cut_needs t (cut_at.Lock x) s = Extents (cut.locks_for t x)
 cut_needs t other s = Nothing
 
@@ -193,24 +174,13 @@ merge_needs (merge.Done ours theirs refusal) s = merge_done_needs refusal (state
 merge_needs other s = Nothing
 
 abbrev pub copy_needs : CopyView → CopyAt → Servers → Need
-copy_needs c copy_at.Begin s = begin_needs s.meta c.what (file_named c.name s.meta.files)
+copy_needs c copy_at.Begin s = begin_needs c.name s.meta c.what (file_named c.name s.meta.files)
 copy_needs c (copy_at.Copy next) s = stage_needs next s
 copy_needs c (copy_at.Merge next) s = merge_needs next s
 
-abbrev pub split_to_needs : List ℕ → ℕ → SplitTo → List File → Need
-split_to_needs name mirror split.Default files = split_needs mirror (default_name name mirror) files (file_named name files)
-split_to_needs name mirror (split.Named new) files = split_needs mirror new files (file_named name files)
-split_to_needs name mirror split.Destroy files = delete_needs mirror (file_named name files)
-
-abbrev pub lfs_needs : LfsCommand → List File → Need
-lfs_needs (lfs.CompSet name id change) files = flags_needs id change (file_named name files)
-lfs_needs (lfs.Split name mirror to) files = split_to_needs name mirror to files
-lfs_needs (lfs.Delete name mirror) files = delete_needs mirror (file_named name files)
-lfs_needs other files = Nothing
-
 -- a command of one step
 abbrev pub command_needs : Command → Servers → Need
-command_needs (command.Lfs of) s = lfs_needs of s.meta.files
+command_needs (command.Lfs of) s = unless (lfs_refusal of s.meta) (changed_by of s.meta.files)
 command_needs other s = Nothing
 
 -- the next step of this call, or of a command of one step

@@ -18,7 +18,7 @@ use Rattle.flr_claims.specs.Asked.{IsFile}
 use Rattle.flr_claims.specs.Calls.{Call, HaveBegun, IsAtOnce, IsBrokenAt, IsLeased, HasOpened}
 use Rattle.flr_claims.specs.Comparisons.{HasDifferences, HasFailedRead, compared_blocks}
 use Rattle.flr_claims.specs.Copies.{AreSelected, IsRightlyCleared}
-use Rattle.plain_files.specs.Effects.{default_name}
+use Rattle.lfs_words.specs.Naming.{default_name}
 use Rattle.flr_claims.specs.Merging.{AreTheSame, DifferFirstAt, HasFenceFailed, HasNoSource, HaveOtherSizes}
 use Rattle.flr_claims.specs.Refusals.{refusal_for}
 use Rattle.flr_claims.specs.Takes.{HasNobodyLeft, HasRead}

@@ -40,9 +40,19 @@ pub record CanStep (s : State) (c : ℕ) : Type 0 where
 abbrev pub IsLive : State → Type 0
 IsLive s = (c : ℕ) → HasCommand s c → (d : ℕ) × CanStep s d
 
--- the calls stand in order, each at a point of its own within its interval; the files are sound, so that each layout is valid with a wholly fresh mirror; each change of a layout is explained; each part of a write or a truncate that may still land, or has landed before its call's point, lies in the only fresh components there; where no command lets a byte rot, the files are the plain files that the calls so far leave, and fresh components hold their bytes; nobody is stuck; and the run isn't longer than its script's work
+-- no entry is lost: the calls that are judged are the entries
+abbrev pub CallsAreEntries : State → Trace → Type 0
+CallsAreEntries s t = map (λ (a : Answered). a.entry) (calls_of s t) ≡ s.entries
+
+-- the calls could have been made one at a time on plain files, each at its point
+abbrev pub CallsAreLinear : State → Trace → Type 0
+CallsAreLinear s t = IsLinear s.script s.schedule (calls_of s t)
+
+-- the calls stand in order, each at a point of its own within its interval, none of them lost; where no command lets a byte rot they are linear on plain files; the files are sound, so that each layout is valid with a wholly fresh mirror; each change of a layout is explained; each part of a write or a truncate that may still land, or has landed before its call's point, lies in the only fresh components there; where no command lets a byte rot, the files are the plain files that the calls so far leave, and fresh components hold their bytes; nobody is stuck; and the run isn't longer than its script's work
 pub record IsSoundRun (s : State) : Type 0 where
   pub order : AreInOrder s
+  pub all : CallsAreEntries s (trace_after s.script s.schedule)
+  pub linear : has_rot s.script ≡ false → CallsAreLinear s (trace_after s.script s.schedule)
   pub files : IsSound s.shared.meta
   pub changes : ChangesAreExplained s
   pub sole : HasSoleHolder s (trace_after s.script s.schedule)
@@ -55,14 +65,6 @@ abbrev pub AreWhole : Type 0
 AreWhole = (s : State) → IsRun s → unfinished_of s ≡ None → IsWhole s.script s.entries
 
 -- ---- sentences on the calls of a run that are to come into it
-
--- no entry is lost: the calls that are judged are the entries
-abbrev pub CallsAreEntries : State → Trace → Type 0
-CallsAreEntries s t = map (λ (a : Answered). a.entry) (calls_of s t) ≡ s.entries
-
--- the calls could have been made one at a time on plain files, each at its point
-abbrev pub CallsAreLinear : State → Trace → Type 0
-CallsAreLinear s t = IsLinear s.script s.schedule (calls_of s t)
 
 -- each answer has its cause: so every byte of a read came from a fresh component, and a copy cleared just what it copied whole
 abbrev pub AnswersHaveCauses : State → Trace → Type 0

@@ -1,5 +1,5 @@
 -- What went wrong on the way of a call: calls of targets that failed, and bytes that nobody is left to answer.
-use Rattle.std.specs.Prelude.{◌≡◌, ℕ, ◌<◌, ◌≤◌, Bool, true, false, not, ◌&&◌, nat_eq, List, [], ◌∷◌, ◌++◌, map, filter, Contains}
+use Rattle.std.specs.Prelude.{◌≡◌, ℕ, Bool, true, false, not, ◌&&◌, nat_eq, List, [], ◌∷◌, ◌++◌, map, filter, Contains}
 use Rattle.std.specs.List.{list_any}
 use Rattle.flr_base.specs.declared.reply.FailedCall.{FailedCall}
 use Rattle.flr_base.specs.declared.reply.ObjectId.{ObjectId}

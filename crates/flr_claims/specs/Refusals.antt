@@ -31,7 +31,8 @@ use Rattle.call_steps.specs.Steps.{Outcome, Going, Fixed, Ended, Answered, Block
 use Rattle.flr_steps.specs.declared.client.Running.TheVariants as running
 use Rattle.flr_steps.specs.Clients.{call_now}
 use Rattle.flr_steps.specs.Commands.{step_of}
-use Rattle.plain_files.specs.Effects.{default_name, most_bytes}
+use Rattle.flr_base.specs.Limits.{most_bytes}
+use Rattle.lfs_words.specs.Naming.{default_name}
 
 -- the answer, where that is so
 abbrev pub refused_if : Bool → Reply → Option Reply

@@ -23,7 +23,7 @@ use Rattle.flr_steps.specs.States.{State, place_in}
 use Rattle.flr_steps.specs.Steps.{StepIs}
 use Rattle.flr_claims.specs.Asked.{lfs_name, lfs_victim, name_of, range_of}
 use Rattle.flr_claims.specs.Calls.{HasLease, breaks_leases, shares_lock}
-use Rattle.plain_files.specs.Effects.{default_name}
+use Rattle.lfs_words.specs.Naming.{default_name}
 
 -- ---- layouts
 

@@ -2,7 +2,6 @@
 use Rattle.std.specs.Prelude.{◌≡◌, ℕ, ◌-◌, ◌<◌, ◌≤◌, true, List, [], ◌∷◌, ◌++◌, length, map}
 use Rattle.std.specs.List.{AllByRecursion}
 use Rattle.flr_base.specs.declared.reply.FailedCall.{FailedCall}
-use Rattle.flr_base.specs.declared.reply.ObjectId.{ObjectId}
 use Rattle.composite_layout.specs.Layouts.{Composite}
 use Rattle.stripe_map.specs.Places.{tail_of}
 use Rattle.mirror_select.specs.Pieces.{write_pieces_of}

@@ -11,7 +11,8 @@ use Rattle.layout_lease.specs.Leases.{KeyView}
 use Rattle.meta_server.specs.Closing.{holds, last_eviction}
 use Rattle.meta_server.specs.Ending.{both_given}
 use Rattle.meta_server.specs.Files.{MetaView, file_named, with_eviction}
-use Rattle.meta_server.specs.Opening.{change_opens_file, most_bytes}
+use Rattle.flr_base.specs.Limits.{most_bytes}
+use Rattle.meta_server.specs.Opening.{change_opens_file}
 use Rattle.meta_laws.specs.Calls.{Call, OpenRead, OpenWrite, OpenCut, Free, Confirm, Commit, Cut, BeginCopy, CopyDone, MergeDone, GiveUp, Create, Remove, Set, Evict, after_call, confirmed, left_by}
 use Rattle.meta_laws.proofs.Cases.{begin_cases, create_cases, end_cases, merge_cases, open_cases, read_cases, remove_cases, set_cases}
 use Rattle.script_values.specs.declared.command.Command.{Command}

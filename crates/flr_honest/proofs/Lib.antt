@@ -12,3 +12,4 @@ pub mod Commands
 pub mod Grounds
 pub mod Steps
 pub mod Runs
+pub mod Legal

@@ -7,3 +7,4 @@ pub mod Knowing
 pub mod Copied
 pub mod Lasting
 pub mod Laws
+pub mod Legal

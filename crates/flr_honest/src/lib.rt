@@ -1,8 +1,13 @@
-//! What the files hold in every run without rot: the bytes of the plain files.
+//! What the files hold in every run without rot: the bytes of the plain files. So each answer is one that
+//! plain files allow at its point, and every run is linear.
 #![tactic(auto)]
 
+mod answers;
 mod laws;
 
+pub use answers::{
+    answers_are_allowed, calls_are_linear, copies_know_their_files, last_writes_are_read,
+};
 pub use laws::{
     bytes_follow_answers, calls_have_their_pieces, calls_send_their_parts, copies_are_fit,
     copies_have_victims, copies_know_what_they_put, copies_stay_true, each_step_writes_so,

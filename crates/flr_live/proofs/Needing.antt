@@ -1,17 +1,17 @@
 -- The files that a step needs alone are files of the metadata server.
-use Rattle.std.proofs.Common.{◌≡◌, ℕ, Bool, true, false, Option, Some, None, List, [], ◌∷◌, refl}
+use Rattle.std.proofs.Common.{◌≡◌, ℕ, ◌==◌, Bool, true, false, Option, Some, None, List, [], ◌∷◌, ◌++◌, length, refl}
 use Rattle.std.specs.List.{AllByRecursion}
+use Rattle.flr_base.proofs.Lists.{all_append}
 use Rattle.flr_base.specs.declared.reply.Range.{Range}
 use Rattle.flr_base.specs.declared.reply.Reply.{Reply}
-use Rattle.composite_layout.specs.FlagChanges.{FlagSets}
+use Rattle.composite_layout.specs.Choices.{is_ready}
 use Rattle.composite_layout.specs.Layouts.{eof}
 use Rattle.layout_lease.specs.declared.lease.KeyState.{KeyState}
 use Rattle.layout_lease.specs.declared.lease.KeyState.TheVariants.{Held}
 use Rattle.layout_lease.specs.Leases.{KeyView, state_of}
+use Rattle.layout_state.specs.Selecting.{selected_of}
 use Rattle.lfs_words.specs.declared.command.LfsCommand.{LfsCommand}
 use Rattle.lfs_words.specs.declared.command.LfsCommand.TheVariants as lfs
-use Rattle.lfs_words.specs.declared.command.SplitTo.{SplitTo}
-use Rattle.lfs_words.specs.declared.command.SplitTo.TheVariants as split
 use Rattle.script_values.specs.declared.command.Command.{Command}
 use Rattle.script_values.specs.declared.command.Command.TheVariants as command
 use Rattle.meta_server.specs.declared.answers.CopyWhat.{CopyWhat}
@@ -38,8 +38,8 @@ use Rattle.resync_copy.specs.declared.phase.CopyStage.{CopyStage}
 use Rattle.resync_copy.specs.declared.phase.CopyStage.TheVariants as stage
 use Rattle.flr_steps.specs.declared.client.Running.{Running}
 use Rattle.flr_steps.specs.declared.client.Running.TheVariants as running
-use Rattle.flr_claims.specs.Blocking.{Alone, Extents, Need, Nothing, Quiet, alone_if, begin_needs, begin_on, command_needs, copy_needs, cut_needs, delete_needs, done_needs, flags_needs, intent_needs, lfs_needs, merge_done_needs, merge_needs, needs_of, read_needs, split_needs, split_to_needs, stage_needs, victim_needs, write_needs}
-use Rattle.plain_files.specs.Effects.{default_name}
+use Rattle.flr_claims.specs.Blocking.{Alone, Extents, Need, Nothing, Quiet, begin_needs, changed_by, changed_unless, command_needs, copy_needs, cut_needs, done_needs, merge_done_needs, merge_needs, needs_of, opening_needs, read_needs, selecting, stage_needs, there, unless, unready, write_needs}
+use Rattle.flr_claims.specs.Refusals.{change_refusal, extend_refusal, lfs_refusal, merge_refusal, resync_refusal}
 
 -- the file is one of the metadata server
 abbrev pub IsFileOf : MetaView → File → Type 0
@@ -56,49 +56,45 @@ module _ (m : MetaView) (sound : IsSound m) where
   named : (name : List ℕ) (f : File) → file_named name m.files ≡ Some f → IsFileOf m f
   named name f e = (f.number, there_named m sound name f e)
 
-  alone : (b : Bool) (files : List File) → AllByRecursion (IsFileOf m) files → AreFilesOf m (alone_if b files)
-  alone true files h = h
-  alone false files h = tt
+  unless_refused : (refusal : Option Reply) (files : List File) → AllByRecursion (IsFileOf m) files → AreFilesOf m (unless refusal files)
+  unless_refused None files h = h
+  unless_refused (Some answer) files h = tt
 
-  intent : (range : Range) (b : Bool) (name : List ℕ) (o : Option File) → file_named name m.files ≡ o → AreFilesOf m (intent_needs range b o)
-  intent range b name None e = tt
-  intent range b name (Some f) e = alone _ (f ∷ []) (named name f e, tt)
+  -- a file by its name, if it is there
+  there_is : (name : List ℕ) (o : Option File) → file_named name m.files ≡ o → AllByRecursion (IsFileOf m) (there o)
+  there_is name None e = tt
+  there_is name (Some f) e = (named name f e, tt)
 
-  flags : (id : ℕ) (change : FlagSets) (name : List ℕ) (o : Option File) → file_named name m.files ≡ o → AreFilesOf m (flags_needs id change o)
-  flags id change name None e = tt
-  flags id change name (Some f) e = alone _ (f ∷ []) (named name f e, tt)
+  changed : (b : Bool) (f : File) → IsFileOf m f → AllByRecursion (IsFileOf m) (changed_unless b f)
+  changed true f h = tt
+  changed false f h = (h, tt)
 
-  deleting : (mirror : ℕ) (name : List ℕ) (o : Option File) → file_named name m.files ≡ o → AreFilesOf m (delete_needs mirror o)
-  deleting mirror name None e = tt
-  deleting mirror name (Some f) e = alone _ (f ∷ []) (named name f e, tt)
+  unready_is : (range : Range) (name : List ℕ) (o : Option File) → file_named name m.files ≡ o → AllByRecursion (IsFileOf m) (unready range o)
+  unready_is range name None e = tt
+  unready_is range name (Some f) e = changed (is_ready f.layout range) f (named name f e)
 
-  splitting : (mirror : ℕ) (to : List ℕ) (name : List ℕ) (o : Option File) → file_named name m.files ≡ o → AreFilesOf m (split_needs mirror to m.files o)
-  splitting mirror to name None e = tt
-  splitting mirror to name (Some f) e = alone _ (f ∷ []) (named name f e, tt)
+  selecting_is : (only : Option (List ℕ)) (name : List ℕ) (o : Option File) → file_named name m.files ≡ o → AllByRecursion (IsFileOf m) (selecting only o)
+  selecting_is only name None e = tt
+  selecting_is only name (Some f) e = changed (length (selected_of only f.layout.components) == 0) f (named name f e)
 
-  splits_to : (name : List ℕ) (mirror : ℕ) (to : SplitTo) → AreFilesOf m (split_to_needs name mirror to m.files)
-  splits_to name mirror split.Default = splitting mirror (default_name name mirror) name (file_named name m.files) refl
-  splits_to name mirror (split.Named new) = splitting mirror new name (file_named name m.files) refl
-  splits_to name mirror split.Destroy = deleting mirror name (file_named name m.files) refl
+  opens : (name : List ℕ) (range : Range) (too_big : Bool) (o : Option File) → file_named name m.files ≡ o → AreFilesOf m (opening_needs name range too_big o)
+  opens name range too_big o e = unless_refused (change_refusal name range too_big o) (unready range o) (unready_is range name o e)
 
-  lfs_files : (of : LfsCommand) → AreFilesOf m (lfs_needs of m.files)
-  lfs_files (lfs.CompSet name id change) = flags id change name (file_named name m.files) refl
-  lfs_files (lfs.Split name mirror to) = splits_to name mirror to
-  lfs_files (lfs.Delete name mirror) = deleting mirror name (file_named name m.files) refl
-  lfs_files other = tt
+  changed_is : (of : LfsCommand) → AllByRecursion (IsFileOf m) (changed_by of m.files)
+  changed_is (lfs.CompSet name id change) = there_is name (file_named name m.files) refl
+  changed_is (lfs.Split name mirror to) = there_is name (file_named name m.files) refl
+  changed_is (lfs.Delete name mirror) = there_is name (file_named name m.files) refl
+  changed_is other = tt
 
-  victims : (f : File) → IsFileOf m f → (victim : List ℕ) (o : Option File) → file_named victim m.files ≡ o → AreFilesOf m (victim_needs m f o)
-  victims f ours victim None e = tt
-  victims f ours victim (Some v) e = alone _ (f ∷ v ∷ []) (ours, (named victim v e, tt))
+  lfs_files : (of : LfsCommand) → AreFilesOf m (unless (lfs_refusal of m) (changed_by of m.files))
+  lfs_files of = unless_refused (lfs_refusal of m) (changed_by of m.files) (changed_is of)
 
-  begins_on : (f : File) → IsFileOf m f → (of : CopyWhat) → AreFilesOf m (begin_on m f of)
-  begins_on f ours (what.Resync only) = alone _ (f ∷ []) (ours, tt)
-  begins_on f ours (what.Extend mirrors) = alone _ (f ∷ []) (ours, tt)
-  begins_on f ours (what.Victim victim) = victims f ours victim (file_named victim m.files) refl
-
-  begins : (of : CopyWhat) (name : List ℕ) (o : Option File) → file_named name m.files ≡ o → AreFilesOf m (begin_needs m of o)
-  begins of name None e = tt
-  begins of name (Some f) e = begins_on f (named name f e) of
+  begins : (of : CopyWhat) (name : List ℕ) (o : Option File) → file_named name m.files ≡ o → AreFilesOf m (begin_needs name m of o)
+  begins (what.Resync only) name o e = unless_refused (resync_refusal name only m o) (selecting only o) (selecting_is only name o e)
+  begins (what.Extend mirrors) name o e = unless_refused (extend_refusal name mirrors m o) (there o) (there_is name o e)
+  begins (what.Victim victim) name o e =
+      unless_refused (merge_refusal name victim m o) (there o ++ there (file_named victim m.files))
+      (all_append (IsFileOf m) (there o) (there (file_named victim m.files)) (there_is name o e) (there_is victim (file_named victim m.files) refl))
 
   ends : (key : KeyView) (state : KeyState) (o : Option File) → file_of key.file m.files ≡ o → AreFilesOf m (done_needs state o)
   ends key Held (Some f) e = ((key.file, e), tt)
@@ -127,11 +123,11 @@ module _ (s : Servers) (sound : IsSound s.meta) where
   read_files r other = tt
 
   write_files : (w : WriteView) (a : WriteAt) → AreFilesOf s.meta (write_needs w a s)
-  write_files w write.Open = intent s.meta sound (range_of w) _ w.name (file_named w.name s.meta.files) refl
+  write_files w write.Open = opens s.meta sound w.name (range_of w) _ (file_named w.name s.meta.files) refl
   write_files w other = tt
 
   cut_files : (t : TruncateView) (a : CutAt) → AreFilesOf s.meta (cut_needs t a s)
-  cut_files t cut.Open = intent s.meta sound (record { start = t.size; end = eof }) _ t.name (file_named t.name s.meta.files) refl
+  cut_files t cut.Open = opens s.meta sound t.name (record { start = t.size; end = eof }) _ (file_named t.name s.meta.files) refl
   cut_files t other = tt
 
   command_files : (asked : Command) → AreFilesOf s.meta (command_needs asked s)

@@ -17,7 +17,7 @@ use std::alloc::Global;
 ///
 /// Status 0: the text is written. 3: the input is no script, or its printed form has more than 1048576
 /// bytes, and one line says why. 4: the source failed, and one line says so. 5: the sink failed, after
-/// a front of the text. 6: memory ran out, and nothing is written. The input is read up to its first
+/// a front of the text. 6: memory ran out, nothing is written, and neither end failed. The input is read up to its first
 /// byte that is too many for a script.
 pub fn migrate_main<S: Source, K: Sink>(alloc: Global, input: &mut S, out: &mut K) -> u8
     // What is written is the printed form of the script that the input spells. It spells that script again.
@@ -29,6 +29,7 @@ pub fn migrate_main<S: Source, K: Sink>(alloc: Global, input: &mut S, out: &mut 
     ensures write { result ≡ 5 → Rose (K.faults out.old) (K.faults out.new) }
     ensures write_front { result ≡ 5 → IfSome (S.left input.old) (λ bytes. TellsFront IsMigrated IsRefusal bytes (S.faults input.old) (S.faults input.new) (K.taken out.old) (K.taken out.new)) }
     ensures memory { result ≡ 6 → Keeps (K.taken out.old) (K.taken out.new) }
+    ensures no_fault { result ≡ 6 → (S.faults input.new ≡ S.faults input.old) × (K.faults out.new ≡ K.faults out.old) }
     ensures status { IsStatus result }
 {
     let bytes = match read_all(alloc, input, MOST_OF_SCRIPT) {

@@ -15,7 +15,8 @@ use Rattle.meta_server.specs.Naming.{creates, removes, sets}
 use Rattle.meta_server.specs.Outcomes.{Gives, Refuses, Waits}
 use Rattle.meta_server.specs.Outcomes as meta
 use Rattle.meta_laws.specs.Calls.{Call, Create, Evict, Remove, Set, after_call, left_by}
-use Rattle.mirror_admin.specs.OneStep.{answered, default_name, one_step, shows}
+use Rattle.lfs_words.specs.Naming.{default_name}
+use Rattle.mirror_admin.specs.OneStep.{answered, one_step, shows}
 use Rattle.client_read.specs.Reads.{read_step}
 use Rattle.client_write.specs.Truncates.{truncate_step}
 use Rattle.client_write.specs.Writes.{write_step}

@@ -17,7 +17,8 @@ use Rattle.meta_server.specs.Conditions.{MayMerge}
 use Rattle.meta_server.specs.Ending.{both_given}
 use Rattle.meta_server.specs.Files.{File, MetaView, changed, file_named, new_file, same_name, with_change, with_evicted, with_freed, with_layout, with_share}
 use Rattle.meta_server.specs.Layouts.{begun, extended, finished, flagged, intended, lessened, merged, split_off}
-use Rattle.meta_server.specs.Opening.{change_opens_file, most_bytes, with_intent}
+use Rattle.flr_base.specs.Limits.{most_bytes}
+use Rattle.meta_server.specs.Opening.{change_opens_file, with_intent}
 use Rattle.meta_laws.specs.Calls.{Call, OpenRead, OpenWrite, OpenCut, Free, Confirm, Commit, Cut, BeginCopy, CopyDone, MergeDone, GiveUp, Create, Remove, Set, Evict, IsCopyable, after_call, confirmed, left_by}
 use Rattle.meta_laws.proofs.Cases.{begin_cases, create_cases, end_cases, merge_cases, open_cases, read_cases, remove_cases, set_cases}
 use Rattle.meta_laws.proofs.Finding.{found_keeps}

@@ -37,7 +37,8 @@ use Rattle.flr_numbers.proofs.Holding.{broken_held, covered_there}
 use Rattle.flr_numbers.proofs.Leaving as leaving
 use Rattle.flr_numbers.proofs.Standing.{flagged_rises, lessened_rises, none_stands, split_stands, unleased_grows}
 use Rattle.call_steps.specs.Servers.{Servers, target_at}
-use Rattle.mirror_admin.specs.OneStep.{answered, default_name, one_step, shows, splits}
+use Rattle.lfs_words.specs.Naming.{default_name}
+use Rattle.mirror_admin.specs.OneStep.{answered, one_step, shows, splits}
 use Rattle.mirror_admin.specs.Rotting.{is_kept, rotted, with_rot}
 use Rattle.flr_numbers.specs.Hands.{AreServers, Fine, Good, Has, HasRoom, nothing}
 use Rattle.flr_numbers.proofs.Handing.{Backs, bare_has, changed_backs, evicted_backs, pushed_backs, still_none}

@@ -4,7 +4,7 @@ use Rattle.std.specs.Option.{option_map}
 use Rattle.flr_base.specs.declared.reply.Reply.{Reply}
 use Rattle.layout_lease.specs.Leases.{KeyView, keys_of}
 use Rattle.meta_server.specs.Files.{File, MetaView, file_of}
-use Rattle.meta_server.specs.Opening.{most_bytes}
+use Rattle.flr_base.specs.Limits.{most_bytes}
 use Rattle.meta_server.specs.Sound.{IsSound}
 use Rattle.meta_laws.proofs.Whole.{sound_there}
 use Rattle.call_steps.specs.Servers.{CanCall, Servers}

@@ -17,7 +17,8 @@ use Rattle.mirror_select.proofs.TailLaws.{are_all}
 use Rattle.object_target.specs.Calls.{after_punch}
 use Rattle.meta_server.specs.declared.answers.Opened.{Opened}
 use Rattle.meta_server.specs.Closing.{commits, cuts, grown, is_there, last_eviction, shortened}
-use Rattle.meta_server.specs.Opening.{cut_opens, most_bytes}
+use Rattle.flr_base.specs.Limits.{most_bytes}
+use Rattle.meta_server.specs.Opening.{cut_opens}
 use Rattle.meta_server.specs.Outcomes.{Gives, Refuses, Waits}
 use Rattle.meta_server.specs.Outcomes as meta
 use Rattle.meta_laws.specs.Calls.{Commit, Cut, OpenCut}

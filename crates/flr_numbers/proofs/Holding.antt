@@ -12,7 +12,7 @@ use Rattle.layout_lease.specs.Leases.{KeyView, TableView, broken_at, broken_by, 
 use Rattle.layout_lease.proofs.Hands.{broken_state, evicted_state}
 use Rattle.layout_lease.proofs.Lists.{filter_kept, find_passes}
 use Rattle.meta_server.specs.Files.{File, file_of}
-use Rattle.meta_server.specs.Sound.{IsCopied, IsCovered}
+use Rattle.meta_server.specs.Sound.{IsUnderCopy, IsCovered}
 use Rattle.meta_laws.proofs.Covering.{free_held}
 
 found_holds : {X : Type 0} (p : X → Bool) (P : X → Type 0) (xs : List X) (x : X) → find p xs ≡ Some x → AllByRecursion P xs → P x
@@ -52,10 +52,10 @@ not_free table key free held =
 pub covered_there : (files : List File) (table : TableView) (key : KeyView) → AllByRecursion (IsCovered files) table.keys → state_of table key ≡ Held → (f : File) × (file_of key.file files ≡ Some f)
 covered_there files table key all held =
     let s = stood table key held in
-    let copied : IsCopied (file_of s.lease.file files) = found_holds (is_key key) (IsCovered files) table.keys s.lease s.found all (ap is_unbroken s.state) in
-    by (file_of key.file files) refl (subst (λ n. IsCopied (file_of n files)) (same_file key s.lease (find_passes (is_key key) table.keys s.lease s.found)) copied)
+    let copied : IsUnderCopy (file_of s.lease.file files) = found_holds (is_key key) (IsCovered files) table.keys s.lease s.found all (ap is_unbroken s.state) in
+    by (file_of key.file files) refl (subst (λ n. IsUnderCopy (file_of n files)) (same_file key s.lease (find_passes (is_key key) table.keys s.lease s.found)) copied)
   where
-    by : (o : Option File) → file_of key.file files ≡ o → IsCopied o → (f : File) × (file_of key.file files ≡ Some f)
+    by : (o : Option File) → file_of key.file files ≡ o → IsUnderCopy o → (f : File) × (file_of key.file files ≡ Some f)
     by None is h = absurd h
     by (Some f) is h = (f, is)
 

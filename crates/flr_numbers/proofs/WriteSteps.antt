@@ -22,7 +22,8 @@ use Rattle.object_target.specs.TargetState.{TargetState, version_at}
 use Rattle.meta_server.specs.declared.answers.Opened.{Opened}
 use Rattle.meta_server.specs.Closing.{commits, grown, is_there, last_eviction}
 use Rattle.meta_server.specs.Files.{MetaView}
-use Rattle.meta_server.specs.Opening.{most_bytes, write_opens}
+use Rattle.flr_base.specs.Limits.{most_bytes}
+use Rattle.meta_server.specs.Opening.{write_opens}
 use Rattle.meta_server.specs.Outcomes.{Gives, Refuses, Waits}
 use Rattle.meta_server.specs.Outcomes as meta
 use Rattle.meta_laws.specs.Calls.{Commit, OpenWrite}

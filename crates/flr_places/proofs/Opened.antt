@@ -20,7 +20,8 @@ use Rattle.meta_server.specs.declared.answers.Opened.{Opened}
 use Rattle.meta_server.specs.Closing.{confirms, holds, is_there, last_eviction}
 use Rattle.meta_server.specs.Files.{File, MetaView, file_named, file_of, with_change, with_layout, with_share}
 use Rattle.meta_server.specs.Layouts.{intended}
-use Rattle.meta_server.specs.Opening.{change_opens_file, cut_opens, most_bytes, opened, with_intent, write_opens}
+use Rattle.flr_base.specs.Limits.{most_bytes}
+use Rattle.meta_server.specs.Opening.{change_opens_file, cut_opens, opened, with_intent, write_opens}
 use Rattle.meta_server.specs.Outcomes.{Gives, Refuses, Waits}
 use Rattle.meta_server.specs.Outcomes as meta
 use Rattle.meta_server.specs.Sound.{IsSound}

@@ -2,8 +2,9 @@
 use Rattle.std.proofs.Common.{◌≡◌, ℕ, zero, suc, ◌+◌, List, [], ◌∷◌, ◌++◌, length, take, refl, sym, ap, ◌∙◌}
 use Rattle.std.specs.Prelude.{None, Some, slice_get}
 use Rattle.script_values.specs.Scripts.{ScriptView}
-use Rattle.flr_steps.specs.Schedules.{IsTaken}
-use Rattle.flr_steps.specs.States.{IsRun, State, after, start, unfinished_of}
+use Rattle.flr_steps.specs.Schedules.{IsBlocked, IsFinished, IsTaken, IsUnknown, Stops, Why}
+use Rattle.flr_steps.specs.States.{Blocked, Finished, IsRun, Next, State, Stepped, Unknown, after, next, start, unfinished_of}
+use Rattle.flr_claims.proofs.BlockingLaws.{blocked_where_waiting}
 use Rattle.flr_replay.specs.declared.follow.Stop.{Stop}
 use Rattle.flr_replay.specs.Following.{StopsAt, cause_of}
 use Rattle.flr_replay.specs.Lines.{cut_short_line, stopped_line}
@@ -24,6 +25,13 @@ reaches [] k x e = absurd (cc e)
 reaches (y ∷ xs) zero x e = refl
 reaches (y ∷ xs) (suc k) x e = ap suc (reaches xs k x e)
 
+-- a step that isn't made because of a holder is blocked by it
+blocked_by : (n : Next) (why : Why) (holder : ℕ) → Stops n why → why ≡ IsBlocked holder → n ≡ Blocked holder
+blocked_by (Stepped after) why holder stops is = absurd stops
+blocked_by (Blocked other) why holder stops is = let both : IsBlocked other ≡ IsBlocked holder = sym stops ∙ is in let same : other ≡ holder = cc in ap Blocked same
+blocked_by Finished why holder stops is = let both : IsFinished ≡ IsBlocked holder = sym stops ∙ is in absurd cc
+blocked_by Unknown why holder stops is = let both : IsUnknown ≡ IsBlocked holder = sym stops ∙ is in absurd cc
+
 pub stopped_by : (script : ScriptView) (schedule line : List ℕ) (old new : State) (stop : Stop) (place : ℕ) → old.schedule ≡ [] → new.script ≡ script → IsRun new → StopsAt schedule old new stop → place ≡ length new.schedule + 1 → line ≡ stopped_line place stop.client (cause_of stop.why) → TellsStop script schedule line
 stopped_by script schedule line old new stop place first same run st counted written =
     let made : new.schedule ≡ take st.before schedule = st.made ∙ ap (λ (xs : List ℕ). xs ++ take st.before schedule) first in
@@ -39,5 +47,6 @@ stopped_by script schedule line old new stop place first same run st counted wri
         run = run_of script (take st.before schedule) new same run made;
         stops = st.stops;
       };
+      waits = λ holder is. (blocked_where_waiting new stop.client holder run).0 (blocked_by (next new stop.client) (cause_of stop.why) holder st.stops is);
       written = written;
     }

@@ -1,3 +1,4 @@
 pub mod Stretches
 pub mod Judging
 pub mod Told
+pub mod Taken

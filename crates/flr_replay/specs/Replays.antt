@@ -8,9 +8,10 @@ use Rattle.script_text.specs.Grammar.{SpellsReplay}
 use Rattle.script_text.specs.Refusals.{refusal_line}
 use Rattle.script_text.specs.Replays.{replay_of}
 use Rattle.flr_steps.specs.Reports.{text_of_run}
-use Rattle.flr_steps.specs.Schedules.{IsCutShort, IsStopped, IsTaken, Why, places_of}
+use Rattle.flr_steps.specs.Schedules.{IsBlocked, IsCutShort, IsStopped, IsTaken, Why, places_of}
 use Rattle.flr_steps.specs.States.{State}
 use Rattle.plain_files.specs.Histories.{IsWhole}
+use Rattle.flr_claims.specs.Blocking.{IsWaiting}
 use Rattle.flr_claims.specs.Claims.{IsSoundRun}
 use Rattle.flr_replay.specs.Lines.{cut_short_line, stopped_line}
 
@@ -32,12 +33,13 @@ pub record IsNoReplay (bytes text : List ℕ) : Type 0 where
   pub exact : replay_of bytes ≡ Err cause
   pub written : text ≡ refusal_line cause
 
--- the text tells the first place of the schedule whose step isn't made, its client, and why
+-- the text tells the first place of the schedule whose step isn't made, its client, and why. A client that is blocked waits for the one that is told
 pub record TellsStop (script : ScriptView) (schedule text : List ℕ) : Type 0 where
   pub place : ℕ
   pub client : ℕ
   pub why : Why
   pub stopped : IsStopped script schedule place client why
+  pub waits : (holder : ℕ) → why ≡ IsBlocked holder → IsWaiting stopped.state client holder
   pub written : text ≡ stopped_line place client why
 
 -- the text tells the lowest client that has a command left at the end of the schedule
@@ -56,3 +58,15 @@ pub record IsNotTaken (bytes text : List ℕ) : Type 0 where
 -- status 3
 abbrev pub IsRefusal : List ℕ → List ℕ → Type 0
 IsRefusal bytes text = IsNoReplay bytes text ⊎ IsNotTaken bytes text
+
+-- the bytes spell a script and a schedule that it takes
+pub record IsGoodInput (bytes : List ℕ) : Type 0 where
+  pub script : ScriptView
+  pub runs : List ClientRun
+  pub last : State
+  pub spelled : SpellsReplay bytes script runs
+  pub taken : IsTaken script (places_of runs) last
+
+-- such an input is never refused, with whatever line
+abbrev pub GoodInputsAreTaken : Type 0
+GoodInputsAreTaken = (bytes text : List ℕ) → IsGoodInput bytes → IsRefusal bytes text → ⊥

@@ -2,8 +2,10 @@
 #![tactic(auto)]
 
 mod follow;
+mod good;
 mod lines;
 mod main_call;
 mod play;
 
+pub use good::good_inputs_are_taken;
 pub use main_call::replay_main;

@@ -9,6 +9,7 @@ ghost use Rattle.script_text.specs.Grammar.{Spells};
 ghost use Rattle.script_text.specs.Wholes.{script_of};
 ghost use Rattle.script_text.specs.declared.error.ScriptError.TheVariants as errors;
 
+use crate::together::Together;
 use flr_base::{NoMemory, Octets};
 use flr_world::World;
 use script_text::{ScriptError, print_refusal, read_script};
@@ -37,7 +38,8 @@ fn crewed<G: Gate + Sync, R: Threads + Wait + Sync>(
 {
     let clients = script.clients();
     let world = World::start(alloc, script)?;
-    let world = run_crew(rt, alloc, world, clients, gate)?;
+    let together = Together::new(clients, gate);
+    let world = run_crew(rt, alloc, world, clients, &together)?;
     world.keeps_run();
     Ok(world)
 }

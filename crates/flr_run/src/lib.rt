@@ -4,5 +4,6 @@
 
 mod crew;
 mod main_call;
+mod together;
 
 pub use main_call::run_main;

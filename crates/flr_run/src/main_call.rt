@@ -25,7 +25,7 @@ const MOST_OF_SCRIPT: u32 = 1048576;
 ///
 /// Status 0: the report is written. 3: the input is no script, and one line says why. 4: the source failed,
 /// and one line says so. 5: the sink failed, after a front of the text. 6: memory ran out, when nothing or a
-/// front of the report was written. The input is read up to its first byte that is too many for a script.
+/// front of the report was written, and neither end failed. The input is read up to its first byte that is too many for a script.
 /// The statuses are our own. It may wait without end.
 pub fn run_main<S: Source, K: Sink, G: Gate + Sync, R: Threads + Wait + Sync>(
     rt: &R,
@@ -44,6 +44,7 @@ pub fn run_main<S: Source, K: Sink, G: Gate + Sync, R: Threads + Wait + Sync>(
     ensures write { result ≡ 5 → Rose (K.faults out.old) (K.faults out.new) }
     ensures write_front { result ≡ 5 → IfSome (S.left input.old) (λ bytes. TellsFront IsReport IsNoScript bytes (S.faults input.old) (S.faults input.new) (K.taken out.old) (K.taken out.new)) }
     ensures memory { result ≡ 6 → IfSome (S.left input.old) (λ bytes. LeavesFront IsReport bytes (K.taken out.old) (K.taken out.new)) }
+    ensures no_fault { result ≡ 6 → (S.faults input.new ≡ S.faults input.old) × (K.faults out.new ≡ K.faults out.old) }
     ensures status { IsStatus result }
 {
     let bytes = match read_all(alloc, input, MOST_OF_SCRIPT) {

@@ -17,7 +17,7 @@ use Rattle.resync_copy.specs.declared.phase.CopyStage.{CopyStage}
 use Rattle.resync_copy.specs.declared.phase.CopyStage.TheVariants as stage
 use Rattle.resync_copy.specs.Chunks.{piece_in}
 use Rattle.resync_copy.specs.Copies.{bytes_of, object_at, piece_to}
-use Rattle.resync_copy.specs.Fitting.{IsDestination, IsSoundStage}
+use Rattle.resync_copy.specs.Fitting.{HasItsObjects, IsSoundStage}
 use Rattle.resync_copy.specs.Views.{CopyingView, resets_of}
 use Rattle.resync_copy.proofs.PartLaws.{shaped, with_id_in}
 use Rattle.copy_laws.proofs.Log.{piece_listed, piece_there}
@@ -75,7 +75,7 @@ put_reset h bytes sound =
     let ids : List ℕ = h.copying.ids in
     let within : h.place < length ids = omega (arith, sound.0.place, sound.0.copying.as_many) in
     let listed : In (slice_index ids h.place) ids = get_there ids h.place 0 within in
-    let d : IsDestination cs (slice_index ids h.place) = every_in (IsDestination cs) ids (get_or ids h.place 0) sound.0.copying.each listed in
+    let d : HasItsObjects cs (slice_index ids h.place) = every_in (HasItsObjects cs) ids (get_or ids h.place 0) sound.0.copying.each listed in
     let i = with_id_in cs (slice_index ids h.place) d.0 d.1 in
     let same : piece_to h ≡ piece_at d.0 (bytes_of h).start (bytes_of h).end = ap (λ (o : Option Component). piece_in o (bytes_of h)) d.1 in
     let whole = piece_there d.0 (bytes_of h).start (bytes_of h).end (shaped h.copying.side.layout sound.0.copying.valid d.0 i) d.2 in

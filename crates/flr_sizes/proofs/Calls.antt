@@ -10,7 +10,8 @@ use Rattle.object_target.specs.Calls.{read_answer}
 use Rattle.meta_server.specs.declared.answers.Opened.{Opened}
 use Rattle.meta_server.specs.Closing.{commits, confirms, cuts, holds, is_there}
 use Rattle.meta_server.specs.Files.{File, file_named}
-use Rattle.meta_server.specs.Opening.{cut_opens, most_bytes, write_opens}
+use Rattle.flr_base.specs.Limits.{most_bytes}
+use Rattle.meta_server.specs.Opening.{cut_opens, write_opens}
 use Rattle.meta_server.specs.Outcomes.{Gives, Refuses, Waits}
 use Rattle.meta_server.specs.Outcomes as meta
 use Rattle.meta_laws.specs.Calls.{Commit, Cut, OpenCut, OpenWrite, left_by}

@@ -5,7 +5,8 @@ use Rattle.composite_layout.specs.Layouts.{Composite, eof}
 use Rattle.layout_lease.specs.declared.shared.Share.{Share}
 use Rattle.meta_server.specs.Closing.{grown, holds, shortened}
 use Rattle.meta_server.specs.Files.{File, MetaView, changed, file_named, same_name, with_evicted, with_freed, with_layout, with_share, without_file}
-use Rattle.meta_server.specs.Opening.{change_opens_file, most_bytes}
+use Rattle.flr_base.specs.Limits.{most_bytes}
+use Rattle.meta_server.specs.Opening.{change_opens_file}
 use Rattle.meta_laws.specs.Calls.{Call, OpenRead, OpenWrite, OpenCut, Free, Confirm, Commit, Cut, BeginCopy, CopyDone, MergeDone, GiveUp, Create, Remove, Set, Evict, after_call, confirmed, left_by}
 use Rattle.meta_laws.proofs.Cases.{begin_cases, create_cases, end_cases, merge_cases, open_cases, read_cases, remove_cases, set_cases}
 use Rattle.flr_sizes.specs.Laws.{AreShort}

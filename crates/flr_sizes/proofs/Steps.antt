@@ -15,11 +15,12 @@ use Rattle.script_values.specs.Work.{end_of, greatest_by}
 use Rattle.script_values.proofs.Measures.{greatest-append, greatest-cons}
 use Rattle.meta_server.specs.Files.{File, file_named}
 use Rattle.meta_server.specs.Naming.{creates, removes, sets}
-use Rattle.meta_server.specs.Opening.{most_bytes}
+use Rattle.flr_base.specs.Limits.{most_bytes}
 use Rattle.meta_server.specs.Outcomes.{Gives, Refuses, Waits}
 use Rattle.meta_server.specs.Outcomes as meta
 use Rattle.meta_laws.specs.Calls.{Call, Create, Evict, Remove, Set, after_call, left_by}
-use Rattle.mirror_admin.specs.OneStep.{answered, default_name, one_step, shows}
+use Rattle.lfs_words.specs.Naming.{default_name}
+use Rattle.mirror_admin.specs.OneStep.{answered, one_step, shows}
 use Rattle.call_steps.specs.Servers.{Servers}
 use Rattle.call_steps.specs.Steps.{Outcome, Going, Fixed, Ended, Answered, Blocked}
 use Rattle.client_read.specs.Reads.{read_step}

@@ -1,11 +1,12 @@
 -- What a soak counts, and its line.
-use Rattle.std.specs.Prelude.{◌≡◌, ℕ, Bool, true, false, List, [], ◌∷◌, ◌++◌, length, codes}
+use Rattle.std.specs.Prelude.{◌≡◌, ℕ, Bool, true, false, List, [], ◌∷◌, ◌++◌, length, codes, None}
 use Rattle.std.specs.List.{count_by, sum_by}
 use Rattle.std.specs.Fmt.{decimal}
 use Rattle.flr_base.specs.declared.reply.Entry.{Entry}
 use Rattle.flr_base.specs.declared.reply.Reply.{Reply}
 use Rattle.flr_base.specs.declared.reply.Reply.TheVariants as reply
-use Rattle.flr_steps.specs.States.{State}
+use Rattle.flr_steps.specs.States.{State, unfinished_of}
+use Rattle.flr_claims.specs.Claims.{IsSoundRun}
 use Rattle.flr_world.specs.Counts.{unfinished_count}
 use Rattle.flr_soak.specs.Soaking.{IsRunOf}
 
@@ -53,8 +54,10 @@ soak_line seed clients calls s =
     ++ counted (codes " writes ") (count_of is_write s.entries) ++ counted (codes " resyncs ") (count_of is_copy s.entries) ++ counted (codes " verifies ") (count_of is_verify s.entries) ++ counted (codes " bytes ") (bytes_of s.entries)
     ++ counted (codes " unfinished ") (unfinished_count s.script 1 s.clients) ++ 10 ∷ []
 
--- the text is the line of the run that these numbers make
+-- the text is the line of the run that these numbers make, which is sound, and at whose end nobody has a command left
 pub record IsSoakLine (seed clients calls : ℕ) (text : List ℕ) : Type 0 where
   pub last : State
   pub run : IsRunOf seed clients calls last
   pub written : text ≡ soak_line seed clients calls last
+  pub finished : unfinished_of last ≡ None
+  pub sound : IsSoundRun last

@@ -1,7 +1,7 @@
 //! The run that a generator of numbers makes.
 
-ghost use Rattle.std.specs.Prelude.{◌≡◌, ◌<◌, ◌≤◌, [], IfOk, OnOk};
-ghost use Rattle.flr_steps.specs.States.{IsRun};
+ghost use Rattle.std.specs.Prelude.{◌≡◌, ◌<◌, ◌≤◌, [], length, None, IfOk, OnOk};
+ghost use Rattle.flr_steps.specs.States.{IsRun, unfinished_of};
 ghost use Rattle.flr_soak.specs.Soaking.{IsSoaked};
 ghost use Rattle.flr_soak.specs.Trying.{StepsFirst};
 
@@ -32,7 +32,10 @@ fn step_first(world: &mut World, draw: u32, clients: u8) -> Result<bool, NoMemor
     Ok(false)
 }
 
-/// The clients make steps, one for each draw, as long as somebody has a command left and can make one.
+/// The clients make steps, one for each draw, until nobody has a command left. The draw says who is tried
+/// first; whoever is blocked is passed by for the next one, and somebody can always step.
+///
+/// `Err`: memory ran out; the world is that of the steps so far.
 pub(crate) fn soak(
     world: &mut World,
     generator: &mut Generator,
@@ -41,9 +44,11 @@ pub(crate) fn soak(
     requires some { 1 ≤ clients }
     requires run { IsRun world.old }
     requires first { world.old.schedule ≡ [] }
+    requires all { length world.old.script.clients ≡ clients }
     ensures script { world.new.script ≡ world.old.script }
     ensures run { IsRun world.new }
     ensures soaked { OnOk result (IsSoaked clients generator.old world.old world.new.schedule world.new) }
+    ensures finished { OnOk result (unfinished_of world.new ≡ None) }
 {
     while world.unfinished().is_some() {
         let draw = generator.draw();

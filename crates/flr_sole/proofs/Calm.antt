@@ -23,7 +23,8 @@ use Rattle.meta_server.specs.Outcomes.{Gives, Refuses, Waits}
 use Rattle.meta_server.specs.Outcomes as meta
 use Rattle.meta_server.specs.Sound.{IsSound}
 use Rattle.meta_laws.specs.Calls.{Call, Create, Evict, Remove, Set, after_call, left_by}
-use Rattle.mirror_admin.specs.OneStep.{answered, default_name, one_step, shows}
+use Rattle.lfs_words.specs.Naming.{default_name}
+use Rattle.mirror_admin.specs.OneStep.{answered, one_step, shows}
 use Rattle.mirror_admin.specs.Rotting.{is_kept, with_rot}
 use Rattle.call_steps.specs.Pieces.{length_of, object_of, piece_at}
 use Rattle.call_steps.specs.Servers.{Servers, target_at}

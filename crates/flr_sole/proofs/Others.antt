@@ -11,7 +11,7 @@ use Rattle.layout_lease.proofs.Lists.{find_passes}
 use Rattle.object_target.specs.TargetState.{TargetState}
 use Rattle.meta_server.specs.declared.answers.Side.{Side}
 use Rattle.meta_server.specs.Files.{File, MetaView, file_of}
-use Rattle.meta_server.specs.Sound.{IsCopied, IsCovered, IsSound}
+use Rattle.meta_server.specs.Sound.{IsUnderCopy, IsCovered, IsSound}
 use Rattle.resync_copy.specs.declared.merge_phase.MergeStage.{MergeStage}
 use Rattle.resync_copy.specs.declared.merge_phase.MergeStage.TheVariants as merge
 use Rattle.resync_copy.specs.declared.phase.CopyAt.{CopyAt}
@@ -76,13 +76,13 @@ found_holds p P (y ∷ ys) x e h = by (p y) e (λ k. found_holds p P ys x k h.1)
 pub held_there : (m : MetaView) (key : KeyView) → IsSound m → state_of m.leases key ≡ Held → (f : File) × (file_of key.file m.files ≡ Some f)
 held_there m key h held = there (file_of key.file m.files) refl (by (find (is_key key) m.leases.keys) refl held)
   where
-    by : (o : Option Lease) → find (is_key key) m.leases.keys ≡ o → option_map_or (λ (lease : Lease). lease.state) o (Broken 0) ≡ Held → IsCopied (file_of key.file m.files)
+    by : (o : Option Lease) → find (is_key key) m.leases.keys ≡ o → option_map_or (λ (lease : Lease). lease.state) o (Broken 0) ≡ Held → IsUnderCopy (file_of key.file m.files)
     by None is e = absurd (cc)
     by (Some lease) is e =
-        subst (λ n. IsCopied (file_of n m.files)) (same_file key lease (find_passes (is_key key) m.leases.keys lease is))
+        subst (λ n. IsUnderCopy (file_of n m.files)) (same_file key lease (find_passes (is_key key) m.leases.keys lease is))
         (found_holds (is_key key) (IsCovered m.files) m.leases.keys lease is h.covered (ap is_unbroken e))
 
-    there : (o : Option File) → file_of key.file m.files ≡ o → IsCopied o → (f : File) × (file_of key.file m.files ≡ Some f)
+    there : (o : Option File) → file_of key.file m.files ≡ o → IsUnderCopy o → (f : File) × (file_of key.file m.files ≡ Some f)
     there None e c = absurd c
     there (Some f) e c = (f, e)
 

@@ -26,7 +26,8 @@ use Rattle.meta_server.specs.declared.answers.Opened.{Opened}
 use Rattle.meta_server.specs.Closing.{grown, is_there, last_eviction, shortened}
 use Rattle.meta_server.specs.Files.{File, MetaView, file_named, file_of, with_layout, with_share}
 use Rattle.meta_server.specs.Layouts.{intended, nexts_over}
-use Rattle.meta_server.specs.Opening.{change_opens_file, cut_opens, most_bytes, with_intent, write_opens}
+use Rattle.flr_base.specs.Limits.{most_bytes}
+use Rattle.meta_server.specs.Opening.{change_opens_file, cut_opens, with_intent, write_opens}
 use Rattle.meta_server.specs.Outcomes.{Gives, Refuses, Waits}
 use Rattle.meta_server.specs.Outcomes as meta
 use Rattle.meta_server.specs.Sound.{IsSound}

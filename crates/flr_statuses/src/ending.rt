@@ -16,6 +16,7 @@ pub fn written<K: Sink>(out: &mut K, text: &[u8], status: u8) -> u8
     ensures status { (result ≡ status) ⊎ (result ≡ 5) }
     ensures whole { result ≡ status → Appends (K.taken out.old) (K.taken out.new) text.now }
     ensures cause { result ≡ 5 → Rose (K.faults out.old) (K.faults out.new) }
+    ensures kept { result ≢ 5 → K.faults out.new ≡ K.faults out.old }
     ensures front { result ≡ 5 → TakesFront (K.taken out.old) (K.taken out.new) text.now }
 {
     match write_all(out, text) {

@@ -5,7 +5,8 @@ use Rattle.flr_base.specs.declared.reply.Range.{Range}
 use Rattle.composite_layout.specs.Layouts.{eof}
 use Rattle.meta_server.specs.declared.answers.Opened.{Opened}
 use Rattle.meta_server.specs.Closing.{is_there, last_eviction}
-use Rattle.meta_server.specs.Opening.{cut_opens, most_bytes}
+use Rattle.flr_base.specs.Limits.{most_bytes}
+use Rattle.meta_server.specs.Opening.{cut_opens}
 use Rattle.meta_server.specs.Outcomes.{Gives, Refuses, Waits}
 use Rattle.meta_server.specs.Outcomes as meta
 use Rattle.meta_server.specs.Sound.{IsSound}

@@ -6,5 +6,5 @@ mod main_call;
 pub use flr_migrate::migrate_main;
 pub use flr_replay::replay_main;
 pub use flr_run::run_main;
-pub use flr_soak::soak_main;
+pub use flr_soak::{random_main, soak_main};
 pub use main_call::flr_main;

@@ -19,7 +19,7 @@ use Rattle.clap.proofs.FaultLemmas.{stopped_fault}
 use Rattle.clap.proofs.WalkLemmas.{walk_stopped}
 use Rattle.flr_words.specs.CommandLine.{command_line, is_flag}
 
--- the command line as it is built, and its four forms
+-- the command line as it is built, and its five forms
 abbrev line : App
 line = built command_line
 
@@ -34,6 +34,9 @@ migrating = slice_index_or line.subs 2 line.top
 
 abbrev soaking : Shape
 soaking = slice_index_or line.subs 3 line.top
+
+abbrev drawing : Shape
+drawing = slice_index_or line.subs 4 line.top
 
 -- where a walk stands at a word for which nothing waits
 abbrev at : ℕ → Held → Walk
@@ -189,6 +192,42 @@ three_words (seed ∷ clients ∷ calls ∷ more ∷ rest) plain passes =
     ap (λ k. ended soaking false [] k (walk soaking.rules [] nothing_held (seed ∷ clients ∷ calls ∷ more ∷ rest))) stray in
     absurd cc
 
+-- ---- the number of a random run
+
+abbrev pub rows_of_random : Text → List Row
+rows_of_random seed = row (codes "seed") seed ∷ []
+
+module _ (seed : Text) (plain_seed : is_flag seed ≡ false) where
+  seed_fault : (rest : List Text) → walk_fault drawing [] (at 1 nothing_held) (seed ∷ rest) ≡ walk_fault drawing [] (at 2 (one_held seed)) rest
+  seed_fault rest = next_fault drawing 1 nothing_held seed rest plain_seed
+
+  seed_walk : (rest : List Text) → fold (walked drawing.rules []) (at 1 nothing_held) (seed ∷ rest) ≡ fold (walked drawing.rules []) (at 2 (one_held seed)) rest
+  seed_walk rest = next_walk drawing.rules 1 nothing_held seed rest plain_seed
+
+  random_passes : level_fault drawing [] nothing_held (seed ∷ []) false [] ≡ []
+  unfolding walk_fault defaults_fault
+  random_passes = ap₂ (ended drawing false []) (seed_fault []) (seed_walk [])
+
+  random_rows : rows_after drawing.rules [] (seed ∷ []) ≡ rows_of_random seed
+  random_rows = ap (λ (w : Walk). finished drawing.rules w.held) (seed_walk [])
+
+-- one word, which begins with no hyphen
+abbrev pub IsOne : List Text → Type 0
+IsOne words = (seed : Text) × (words ≡ seed ∷ []) × (is_flag seed ≡ false)
+
+one_word : (words : List Text) → list_any is_flag words ≡ false → level_fault drawing [] nothing_held words false [] ≡ [] → IsOne words
+unfolding walk_fault defaults_fault
+one_word [] plain passes = absurd cc
+one_word (seed ∷ []) plain passes = let p = or_parts (is_flag seed) _ plain in (seed, refl, p.0)
+one_word (seed ∷ more ∷ rest) plain passes =
+    let p = or_parts (is_flag seed) _ plain in
+    let q = or_parts (is_flag more) _ p.1 in
+    let stray : walk_fault drawing [] (at 1 nothing_held) (seed ∷ more ∷ rest) ≡ kind.UnknownArgument ∷ [] =
+    seed_fault seed p.0 (more ∷ rest) ∙ next_fault drawing 2 (one_held seed) more rest q.0 in
+    let fails : level_fault drawing [] nothing_held (seed ∷ more ∷ rest) false [] ≡ kind.UnknownArgument ∷ [] =
+    ap (λ k. ended drawing false [] k (walk drawing.rules [] nothing_held (seed ∷ more ∷ rest))) stray in
+    absurd cc
+
 -- ---- the first word names a form
 
 -- what the whole parse fails by, of the faults of its first walk and of where that ended
@@ -234,9 +273,14 @@ soak_enters : Enters (codes "soak") soaking
 unfolding walked
 soak_enters = record { walks = refl; passes = refl; found = refl }
 
+random_enters : Enters (codes "random") drawing
+unfolding walked
+random_enters = record { walks = refl; passes = refl; found = refl }
+
 -- any other word names none, and is refused
-unnamed_word : (word : Text) → bytes_eq (codes "run") word ≡ false → bytes_eq (codes "replay") word ≡ false → bytes_eq (codes "migrate") word ≡ false → bytes_eq (codes "soak") word ≡ false → find (answers_to word) (names_of line) ≡ None
-unnamed_word word run replay migrate soak = rw (run, replay, migrate, soak) refl
+unnamed_word : (word : Text) → bytes_eq (codes "run") word ≡ false → bytes_eq (codes "replay") word ≡ false → bytes_eq (codes "migrate") word ≡ false → bytes_eq (codes "soak") word ≡ false → bytes_eq (codes "random") word ≡ false
+    → find (answers_to word) (names_of line) ≡ None
+unnamed_word word run replay migrate soak random = rw (run, replay, migrate, soak, random) refl
 
 refused : (word : Text) (words : List Text) → turn_fault line.top (names_of line) (at 1 nothing_held) word ≡ kind.UnknownArgument ∷ kind.InvalidSubcommand ∷ []
     → fault_of command_line (word ∷ words) ≡ kind.UnknownArgument ∷ kind.InvalidSubcommand ∷ []
@@ -266,9 +310,13 @@ pub three_pass : (seed clients calls : Text) → is_flag seed ≡ false → is_f
 three_pass seed clients calls a b c =
     form_fault (codes "soak") soaking soak_enters (seed ∷ clients ∷ calls ∷ []) ∙ (first_alone _ ∙ soak_passes seed a clients b calls c)
 
+pub one_passes : (seed : Text) → is_flag seed ≡ false → fault_of command_line (codes "random" ∷ seed ∷ []) ≡ []
+one_passes seed a = form_fault (codes "random") drawing random_enters (seed ∷ []) ∙ (first_alone _ ∙ random_passes seed a)
+
 -- what words are that pass
 abbrev pub Passing : List Text → Type 0
-Passing words = (words ≡ codes "run" ∷ []) ⊎ ((words ≡ codes "replay" ∷ []) ⊎ ((words ≡ codes "migrate" ∷ []) ⊎ ((numbers : List Text) × (words ≡ codes "soak" ∷ numbers) × AreThree numbers)))
+Passing words = (words ≡ codes "run" ∷ []) ⊎ ((words ≡ codes "replay" ∷ []) ⊎ ((words ≡ codes "migrate" ∷ [])
+    ⊎ (((numbers : List Text) × (words ≡ codes "soak" ∷ numbers) × AreThree numbers) ⊎ ((numbers : List Text) × (words ≡ codes "random" ∷ numbers) × IsOne numbers))))
 
 -- words that pass behind the name of a form pass in that form
 behind : (name : Text) (s : Shape) → Enters name s → (word : Text) (words : List Text) → bytes_eq name word ≡ true → fault_of command_line (word ∷ words) ≡ []
@@ -298,11 +346,16 @@ passing (word ∷ words) plain passes =
           | inr migrate ↦ elim (cases_Bool (bytes_eq (codes "soak") word)) [
             | inl same ↦
                 let b = behind (codes "soak") soaking soak_enters word words same passes in
-                inr (inr (inr (words, ap (λ (w : Text). w ∷ words) (sym b.0), three_words words p.1 b.1)))
-            | inr soak ↦
-                let fails : fault_of command_line (word ∷ words) ≡ kind.UnknownArgument ∷ kind.InvalidSubcommand ∷ [] =
-                refused word words (turn_value (names_of line) nothing_held word p.0 (unnamed_word word run replay migrate soak) line.top 1) in
-                absurd cc
+                inr (inr (inr (inl (words, ap (λ (w : Text). w ∷ words) (sym b.0), three_words words p.1 b.1))))
+            | inr soak ↦ elim (cases_Bool (bytes_eq (codes "random") word)) [
+              | inl same ↦
+                  let b = behind (codes "random") drawing random_enters word words same passes in
+                  inr (inr (inr (inr (words, ap (λ (w : Text). w ∷ words) (sym b.0), one_word words p.1 b.1))))
+              | inr random ↦
+                  let fails : fault_of command_line (word ∷ words) ≡ kind.UnknownArgument ∷ kind.InvalidSubcommand ∷ [] =
+                  refused word words (turn_value (names_of line) nothing_held word p.0 (unnamed_word word run replay migrate soak random) line.top 1) in
+                  absurd cc
+            ]
           ]
         ]
       ]
@@ -322,3 +375,6 @@ pub soak_met : (seed clients calls : Text) → is_flag seed ≡ false → is_fla
     → subcommand_of command_line (codes "soak" ∷ seed ∷ clients ∷ calls ∷ []) ≡ Some (codes "soak", rows_of_soak seed clients calls)
 soak_met seed clients calls a b c =
     form_met (codes "soak") soaking soak_enters (seed ∷ clients ∷ calls ∷ []) ∙ ap (λ (rows : List Row). Some (codes "soak", rows)) (soak_rows seed a clients b calls c)
+
+pub random_met : (seed : Text) → is_flag seed ≡ false → subcommand_of command_line (codes "random" ∷ seed ∷ []) ≡ Some (codes "random", rows_of_random seed)
+random_met seed a = form_met (codes "random") drawing random_enters (seed ∷ []) ∙ ap (λ (rows : List Row). Some (codes "random", rows)) (random_rows seed a)

@@ -16,6 +16,10 @@ wanted id = record (new_rule id) { required = true }
 abbrev pub soak : App
 soak = with_rule (with_rule (with_rule (new_app (codes "soak")) (wanted (codes "seed"))) (wanted (codes "clients"))) (wanted (codes "calls"))
 
+-- random SEED
+abbrev pub random : App
+random = with_rule (new_app (codes "random")) (wanted (codes "seed"))
+
 -- the words behind a program's name, of which the first names a form; nothing asks for help
 abbrev pub bare : App
 bare = on_top (λ s. record s {
@@ -27,4 +31,4 @@ bare = on_top (λ s. record s {
 
 -- a form for each call
 abbrev pub command_line : App
-command_line = with_subcommand (with_subcommand (with_subcommand (with_subcommand bare (new_shape (codes "run"))) (new_shape (codes "replay"))) (new_shape (codes "migrate"))) soak.top
+command_line = with_subcommand (with_subcommand (with_subcommand (with_subcommand (with_subcommand bare (new_shape (codes "run"))) (new_shape (codes "replay"))) (new_shape (codes "migrate"))) soak.top) random.top

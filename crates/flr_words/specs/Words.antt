@@ -26,9 +26,14 @@ pub record IsSoak (seed clients calls : ℕ) (words : List (List ℕ)) : Type 0 
   pub some_calls : 1 ≤ calls
   pub few_calls : calls ≤ 255
 
+-- the word random and a seed in decimal, below 2 ^ 31
+pub record IsRandom (seed : ℕ) (words : List (List ℕ)) : Type 0 where
+  pub spelled : words ≡ codes "random" ∷ decimal seed ∷ []
+  pub seeded : seed < 2 ^ 31
+
 -- none of these
 abbrev pub IsOther : List (List ℕ) → Type 0
-IsOther words = (IsRun words → ⊥) × (IsReplay words → ⊥) × (IsMigrate words → ⊥) × ((seed clients calls : ℕ) → IsSoak seed clients calls words → ⊥)
+IsOther words = (IsRun words → ⊥) × (IsReplay words → ⊥) × (IsMigrate words → ⊥) × ((seed clients calls : ℕ) → IsSoak seed clients calls words → ⊥) × ((seed : ℕ) → IsRandom seed words → ⊥)
 
 -- words of these texts ask for this
 abbrev pub AskFor : List (List ℕ) → Words → Type 0
@@ -36,6 +41,7 @@ AskFor words asked.Run = IsRun words
 AskFor words asked.Replay = IsReplay words
 AskFor words asked.Migrate = IsMigrate words
 AskFor words (asked.Soak seed clients calls) = IsSoak seed clients calls words
+AskFor words (asked.Random seed) = IsRandom seed words
 AskFor words asked.Other = IsOther words
 
 -- the words of the program ask for this

@@ -3,7 +3,7 @@
 ghost use Rattle.std.specs.Prelude.{◌≡◌, ◌≢◌, [], map, string_bytes, IfOk, MatchOption, false};
 ghost use Rattle.clap.specs.Words.{app_of, fault_of, subcommand_of, subcommand_rows_of};
 ghost use Rattle.clap.specs.declared.builder.command.Command.TheViews.{out-Command as fields_of};
-ghost use Rattle.flr_words.specs.CommandLine.{command_line, soak, wanted};
+ghost use Rattle.flr_words.specs.CommandLine.{command_line, random, soak, wanted};
 
 use clap::error::ErrorKind;
 use clap::{Arg, ArgMatches, Command};
@@ -24,6 +24,15 @@ fn soak<'a>(alloc: Global) -> Result<Command<'a>, AllocError>
         .arg(calls)
 }
 
+/// The form `random SEED`. Its number is handed on as text.
+fn random<'a>(alloc: Global) -> Result<Command<'a>, AllocError>
+    ensures shape { IfOk result (λ command. app_of command ≡ random) }
+    ensures local { IfOk result (λ command. (fields_of command).has_globals ≡ false) }
+{
+    let seed = Arg::new(alloc, "seed").required(true);
+    Command::new(alloc, "random").arg(seed)
+}
+
 /// A form for each call. `clap` answers nothing by itself: it has no help here, and no version.
 fn command_line<'a>(alloc: Global) -> Result<Command<'a>, AllocError>
     ensures { IfOk result (λ command. app_of command ≡ command_line) }
@@ -32,6 +41,7 @@ fn command_line<'a>(alloc: Global) -> Result<Command<'a>, AllocError>
     let replay = Command::new(alloc, "replay");
     let migrate = Command::new(alloc, "migrate");
     let soak = soak(alloc)?;
+    let random = random(alloc)?;
     Command::new(alloc, "flr")
         .no_binary_name(true)
         .disable_help_flag(true)
@@ -40,7 +50,8 @@ fn command_line<'a>(alloc: Global) -> Result<Command<'a>, AllocError>
         .subcommand(run)?
         .subcommand(replay)?
         .subcommand(migrate)?
-        .subcommand(soak)
+        .subcommand(soak)?
+        .subcommand(random)
 }
 
 /// What `clap` makes of the words: nothing, where it finds a fault in them.

@@ -29,6 +29,8 @@ pub enum Words {
     Migrate,
     /// The words `soak SEED CLIENTS CALLS`.
     Soak { seed: u32, clients: u8, calls: u8 },
+    /// The words `random SEED`.
+    Random { seed: u32 },
     /// Nothing that is known.
     Other,
 }
@@ -92,6 +94,26 @@ fn soak_of(matches: &ArgMatches<'_>) -> Words
     soak(seed, clients, calls)
 }
 
+/// The number behind the word `random`, in decimal.
+fn random(seed: &str) -> Words
+    ensures { AskFor (codes "random" ∷ seed.now ∷ []) result }
+{
+    let Some(seed) = number_to(seed.as_bytes(), MOST_SEED) else {
+        return Words::Other;
+    };
+    Words::Random { seed: seed as u32 }
+}
+
+/// What the form `random` asks for, by the number that `clap` found.
+fn random_of(matches: &ArgMatches<'_>) -> Words
+    ensures { (seed : List ℕ) → first_value (found_of matches.now) (codes "seed") ≡ Some seed → AskFor (codes "random" ∷ seed ∷ []) result }
+{
+    let Some(seed) = matches.get_str("seed") else {
+        return Words::Other;
+    };
+    random(seed)
+}
+
 /// What the form asks for that `clap` found.
 fn asked(matches: &ArgMatches<'_>) -> Words
     ensures run { (rows : List Row) → subcommand_rows_of matches.now ≡ Some (codes "run", rows) → result ≡ Words.Run }
@@ -102,12 +124,15 @@ fn asked(matches: &ArgMatches<'_>) -> Words
         → first_of (codes "seed") rows ≡ Some seed → first_of (codes "clients") rows ≡ Some clients
         → first_of (codes "calls") rows ≡ Some calls
         → AskFor (codes "soak" ∷ seed ∷ clients ∷ calls ∷ []) result }
+    ensures random { (rows : List Row) (seed : List ℕ) → subcommand_rows_of matches.now ≡ Some (codes "random", rows)
+        → first_of (codes "seed") rows ≡ Some seed → AskFor (codes "random" ∷ seed ∷ []) result }
 {
     match matches.subcommand() {
         Some(("run", _)) => Words::Run,
         Some(("replay", _)) => Words::Replay,
         Some(("migrate", _)) => Words::Migrate,
         Some(("soak", numbers)) => soak_of(numbers),
+        Some(("random", number)) => random_of(number),
         _ => Words::Other,
     }
 }

@@ -18,7 +18,8 @@ use Rattle.meta_server.specs.Closing.{grown, holds, shortened}
 use Rattle.meta_server.specs.Ending.{merge_ends, merge_ends_alone, merge_ends_by, merge_ends_files, with_merge}
 use Rattle.meta_server.specs.Files.{File, MetaView, changed, file_named, file_of, with_evicted, with_freed, with_layout, with_share, without_file}
 use Rattle.meta_server.specs.Layouts.{merged}
-use Rattle.meta_server.specs.Opening.{change_opens_file, most_bytes}
+use Rattle.flr_base.specs.Limits.{most_bytes}
+use Rattle.meta_server.specs.Opening.{change_opens_file}
 use Rattle.meta_server.proofs.Placing.{nat_eq_same, number_found}
 use Rattle.meta_server.proofs.SoundFiles.{file_of_changed}
 use Rattle.meta_laws.specs.Calls.{Call, OpenRead, OpenWrite, OpenCut, Free, Confirm, Commit, Cut, BeginCopy, CopyDone, MergeDone, GiveUp, Create, Remove, Set, Evict, after_call, confirmed, left_at, left_by}

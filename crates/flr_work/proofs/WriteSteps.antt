@@ -20,7 +20,8 @@ use Rattle.meta_server.specs.declared.answers.Opened.{Opened}
 use Rattle.meta_server.specs.Closing.{commits, cuts, holds, is_there, last_eviction}
 use Rattle.meta_server.specs.Files.{File, MetaView, changed, file_named, file_of, same_name, with_layout}
 use Rattle.meta_server.specs.Layouts.{intended}
-use Rattle.meta_server.specs.Opening.{change_opens_file, cut_opens, intends, intends_to, limits, most_bytes, readies, with_intent, write_opens}
+use Rattle.flr_base.specs.Limits.{most_bytes}
+use Rattle.meta_server.specs.Opening.{change_opens_file, cut_opens, intends, intends_to, limits, readies, with_intent, write_opens}
 use Rattle.meta_server.specs.Outcomes.{Gives, Refuses, Waits}
 use Rattle.meta_server.specs.Outcomes as meta
 use Rattle.meta_laws.specs.Calls.{Commit, Cut, OpenCut, OpenWrite, left_by}

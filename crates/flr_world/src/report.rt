@@ -1,6 +1,6 @@
 //! The report of a world.
 
-ghost use Rattle.std.specs.Prelude.{◌≡◌, ◌≤◌, Err, option_copied};
+ghost use Rattle.std.specs.Prelude.{◌≡◌, ◌≢◌, ◌≤◌, Err, option_copied};
 ghost use Rattle.std.specs.List.{AllByRecursion};
 ghost use Rattle.flr_base.specs.Causes.{Rose};
 ghost use Rattle.flr_base.specs.Streams.{WritesFront};
@@ -19,11 +19,12 @@ use std::alloc::Global;
 impl World {
     /// Writes the report of the run so far: each call with its answer, each file with its layout, and who
     /// stepped. It is written from what the world keeps, piece by piece, and no second copy is made.
-    /// Without an answer Ok the sink took a front of it.
+    /// Without an answer Ok the sink took a front of it. Want of memory is no answer where the sink failed.
     pub fn report<K: Sink>(&self, out: &mut K) -> Result<(), WriteError>
         ensures front { WritesFront (K.taken out.old) (K.taken out.new) result (text_of_run self.now) }
         ensures later { K.faults out.old ≤ K.faults out.new }
         ensures failed { result ≡ Err errors.Failed → Rose (K.faults out.old) (K.faults out.new) }
+        ensures kept { result ≢ Err errors.Failed → K.faults out.new ≡ K.faults out.old }
     {
         write_head(out)?;
         write_entries(self.alloc, out, &self.script, self.entries.as_slice())?;
@@ -55,6 +56,7 @@ fn write_entry<K: Sink>(
     ensures front { WritesFront (K.taken out.old) (K.taken out.new) result (text_of_entry script.now entry.now) }
     ensures later { K.faults out.old ≤ K.faults out.new }
     ensures failed { result ≡ Err errors.Failed → Rose (K.faults out.old) (K.faults out.new) }
+    ensures kept { result ≢ Err errors.Failed → K.faults out.new ≡ K.faults out.old }
 {
     match command_of(script, entry) {
         Some(command) => write_call(alloc, out, entry, command),
@@ -72,6 +74,7 @@ fn write_entries<K: Sink>(
     ensures front { WritesFront (K.taken out.old) (K.taken out.new) result (text_of_entries script.now entries.now) }
     ensures later { K.faults out.old ≤ K.faults out.new }
     ensures failed { result ≡ Err errors.Failed → Rose (K.faults out.old) (K.faults out.new) }
+    ensures kept { result ≢ Err errors.Failed → K.faults out.new ≡ K.faults out.old }
 {
     for entry in entries {
         write_entry(alloc, out, script, entry)?;
@@ -83,6 +86,7 @@ fn write_files<K: Sink>(alloc: Global, out: &mut K, meta: &Meta) -> Result<(), W
     ensures front { WritesFront (K.taken out.old) (K.taken out.new) result (text_of_kept_files meta.now.files) }
     ensures later { K.faults out.old ≤ K.faults out.new }
     ensures failed { result ≡ Err errors.Failed → Rose (K.faults out.old) (K.faults out.new) }
+    ensures kept { result ≢ Err errors.Failed → K.faults out.new ≡ K.faults out.old }
 {
     for k in 0..meta.files() {
         let (name, size, layout) = meta.file_at(k);

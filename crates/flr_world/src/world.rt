@@ -142,7 +142,11 @@ impl World {
         next_command(&self.script, k + 1, done).is_some()
     }
 
-    /// The client makes its next step. All answers but `Stepped` leave the world as it was.
+    /// The client makes its next step. All answers but `Stepped` leave the world as it was. Want of memory
+    /// takes the place of neither `Unknown` nor `Finished`. It may take that of `Blocked` where the step takes
+    /// memory first: room for its place in the schedule and for its answer, a copy of what the command asks
+    /// for at the first try to begin it, and what a call of the metadata server takes that waits for who
+    /// shares a layout lock.
     ///
     /// Whatever was answered, the calls so far stand in order, each with a moment of its own between its first
     /// and its last step; each layout is valid, with a wholly fresh mirror; each change of a layout that a step

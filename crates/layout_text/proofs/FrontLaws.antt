@@ -28,7 +28,7 @@ use Rattle.layout_text.specs.declared.error.TextError.{TextError}
 use Rattle.layout_text.specs.declared.error.TextError.TheVariants.{Bad, NoMemory}
 use Rattle.layout_text.specs.Texts.{head_line, component_line, text_of_layout}
 use Rattle.layout_text.specs.LineWords.{line_of}
-use Rattle.layout_text.specs.Spelling.{IsSpellable, Spells, AreLines, IsFault, IsNoMemory, StandsFirst, IsFirstStop, HasLine, IsFrontFault}
+use Rattle.layout_text.specs.Spelling.{IsSpellable, Spells, AreLines, IsLayoutFault, IsNoMemory, StandsFirst, IsFirstStop, HasLine, IsFrontFault}
 use Rattle.layout_text.specs.Viable.{head_of, layout_lines, layout_of, layout_at, fits, moved, begin, is_good, State, going, stated, step, IsSmall, complete}
 use Rattle.layout_text.proofs.Coming.{fits_left}
 use Rattle.layout_text.proofs.Lasting.{moved_left, decide}
@@ -395,7 +395,7 @@ behind_by zs y ys a =
     let size = length-append zs (y ∷ ys) in
     same_fault AreTexts AreLines (zs ++ y ∷ ys) (length zs) from_texts to_texts (fault_inside reads_texts s (zs ++ y ∷ ys) (length zs) y (omega (arith, size)) reaches stuck)
 
-pub behind_text : (text : List ℕ) (l : Composite) (rest : List ℕ) → StandsFirst text l rest → (rest ≡ [] → ⊥) → IsFault text (Bad (length l.components + 2))
+pub behind_text : (text : List ℕ) (l : Composite) (rest : List ℕ) → StandsFirst text l rest → (rest ≡ [] → ⊥) → IsLayoutFault text (Bad (length l.components + 2))
 behind_text text l [] h some = absurd (some refl)
 behind_text text l (c ∷ cs) h some =
     let y = some_line c cs (eqb c 10) (lines_of cs) in
@@ -404,7 +404,7 @@ behind_text text l (c ∷ cs) h some =
     let at : length (ended (texts l)) ≡ length l.components + 2 - 1 = omega (arith, size) in
     (omega arith, subst (λ (n : ℕ). IsFirstFault AreLines (lines_of text) n) at (subst (λ (zs : List (Option (List ℕ))). IsFirstFault AreLines zs (length (ended (texts l)))) (sym lines_are) (behind_by (ended (texts l)) y.0 y.1 (are_lines l h.0))))
 
-pub fault_of_front : (text : List ℕ) (e : TextError) → IsFrontFault text e → IsFault text e
+pub fault_of_front : (text : List ℕ) (e : TextError) → IsFrontFault text e → IsLayoutFault text e
 fault_of_front text (Bad line) h = (h.0, h.1.fault)
 fault_of_front text NoMemory h = h
 

@@ -29,7 +29,7 @@ use Rattle.layout_text.specs.Texts.{head_line, component_line, text_of_layout}
 use Rattle.layout_text.specs.LineWords.{line_of}
 use Rattle.layout_text.specs.declared.error.TextError.{TextError}
 use Rattle.layout_text.specs.declared.error.TextError.TheVariants.{Bad, NoMemory}
-use Rattle.layout_text.specs.Spelling.{IsSpellable, Spells, AreLines, IsFault, IsNoMemory}
+use Rattle.layout_text.specs.Spelling.{IsSpellable, Spells, AreLines, IsLayoutFault, IsNoMemory}
 use Rattle.layout_text.specs.Viable.{head_of, component, layout_lines, AreLayout, can_go_on, fits, moved, begin, is_good, State, going, next, stated, step, layout_of, complete}
 use Rattle.layout_text.proofs.Coming.{CanGoOn, from_test, to_test, Rest, alive, from_fits, to_fits, back, on, moved_end, fits_left}
 use Rattle.layout_text.proofs.Lasting.{Keeps, keeps, lives, moved_left, moved_head, ended}
@@ -384,15 +384,15 @@ placed (Going p) head e =
 
 -- ---- the clauses
 
-pub read_law : (text : List ℕ) (r : Result Composite TextError) → MatchResult r (Spells text) (IsFault text) → MatchResult r (Spells text) (λ _. Unit {0})
+pub read_law : (text : List ℕ) (r : Result Composite TextError) → MatchResult r (Spells text) (IsLayoutFault text) → MatchResult r (Spells text) (λ _. Unit {0})
 read_law text (Ok l) h = h
 read_law text (Err e) h = tt
 
-pub bad_law : (text : List ℕ) (r : Result Composite TextError) → MatchResult r (Spells text) (IsFault text) → MatchResult r (λ _. Unit {0}) (IsFault text)
+pub bad_law : (text : List ℕ) (r : Result Composite TextError) → MatchResult r (Spells text) (IsLayoutFault text) → MatchResult r (λ _. Unit {0}) (IsLayoutFault text)
 bad_law text (Ok l) h = tt
 bad_law text (Err e) h = h
 
-pub again_law : (text : List ℕ) (r : Result Composite TextError) → MatchResult r (Spells text) (IsFault text) → (l : Composite) → Spells text l → MatchResult r (λ found. found ≡ l) IsNoMemory
+pub again_law : (text : List ℕ) (r : Result Composite TextError) → MatchResult r (Spells text) (IsLayoutFault text) → (l : Composite) → Spells text l → MatchResult r (λ found. found ≡ l) IsNoMemory
 again_law text (Ok found) h l s = one_layout text found l h s
 again_law text (Err (Bad line)) h l s = h.1.none (l, s.0, lines_of_text text l s ∙ printed l)
 again_law text (Err NoMemory) h l s = tt

@@ -28,9 +28,9 @@ HasLine (Some line ∷ ys) = Unit {0}
 HasLine _ = ⊥
 
 -- what an error says of the text: lines are counted from 1
-abbrev pub IsFault : List ℕ → TextError → Type 0
-IsFault text (Bad line) = (0 < line) × IsFirstFault AreLines (lines_of text) (line - 1)
-IsFault text NoMemory = HasLine (lines_of text)
+abbrev pub IsLayoutFault : List ℕ → TextError → Type 0
+IsLayoutFault text (Bad line) = (0 < line) × IsFirstFault AreLines (lines_of text) (line - 1)
+IsLayoutFault text NoMemory = HasLine (lines_of text)
 
 -- the text of the layout stands first, and the rest behind it
 abbrev pub StandsFirst : List ℕ → Composite → List ℕ → Type 0

@@ -2,7 +2,7 @@ ghost use Rattle.std.specs.Prelude.{◌≡◌, ℕ, List, ◌∷◌, ◌++◌, S
 ghost use Rattle.std.specs.Result.{IfErr};
 ghost use Rattle.composite_layout.specs.Layouts.{Composite};
 ghost use Rattle.layout_text.specs.LineWords.{line_of};
-ghost use Rattle.layout_text.specs.Spelling.{Spells, IsFault, StandsFirst, IsFrontFault, IsNoMemory};
+ghost use Rattle.layout_text.specs.Spelling.{Spells, IsLayoutFault, StandsFirst, IsFrontFault, IsNoMemory};
 ghost use Rattle.layout_text.specs.Viable.{IsSmall, Took, noted, layout_of};
 
 use crate::error::TextError;
@@ -95,7 +95,7 @@ pub fn next_layout(alloc: Global, text: &[u8]) -> Result<(Layout, &[u8]), TextEr
 }
 
 fn read(alloc: Global, text: &[u8]) -> Result<Layout, TextError>
-    ensures { MatchResult result (Spells text.now) (IsFault text.now) }
+    ensures { MatchResult result (Spells text.now) (IsLayoutFault text.now) }
 {
     let (layout, rest) = next_layout(alloc, text)?;
     if !rest.is_empty() {
@@ -114,7 +114,7 @@ pub fn read_layout(alloc: Global, text: &[u8]) -> Result<Layout, TextError>
     // What is read is spelled so, and valid.
     ensures read { IfOk result (λ layout. Spells text.now layout) }
     // A refusal names the first line at which no valid layout's text goes on.
-    ensures bad { IfErr result (IsFault text.now) }
+    ensures bad { IfErr result (IsLayoutFault text.now) }
     // What is spelled so is read, unless memory runs out.
     ensures again { (layout : Composite) → Spells text.now layout → MatchResult result (λ found. found ≡ layout) IsNoMemory }
 {

@@ -6,3 +6,4 @@ pub mod Facts
 pub mod Reading
 pub mod Grammar
 pub mod Goodness
+pub mod Naming

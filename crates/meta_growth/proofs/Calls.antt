@@ -20,7 +20,8 @@ use Rattle.meta_server.specs.Closing.{grown, holds, shortened}
 use Rattle.meta_server.specs.Ending.{both_given, with_merge}
 use Rattle.meta_server.specs.Files.{File, MetaView, changed, file_named, file_of, new_file, same_name, with_break, with_change, with_file, with_freed, with_layout, with_share, without_file}
 use Rattle.meta_server.specs.Layouts.{begun, extended, finished, flagged, intended, lessened, merged, split_off}
-use Rattle.meta_server.specs.Opening.{change_opens_file, most_bytes, with_intent}
+use Rattle.flr_base.specs.Limits.{most_bytes}
+use Rattle.meta_server.specs.Opening.{change_opens_file, with_intent}
 use Rattle.meta_server.proofs.Going.{ascending_filter, below_filter}
 use Rattle.meta_server.proofs.Kept.{length-nexts_after}
 use Rattle.meta_laws.specs.Calls.{Call, OpenRead, OpenWrite, OpenCut, Free, Confirm, Commit, Cut, BeginCopy, CopyDone, MergeDone, GiveUp, Create, Remove, Set, Evict, after_call, confirmed, left_by}

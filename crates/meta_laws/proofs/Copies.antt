@@ -15,7 +15,7 @@ use Rattle.meta_server.specs.declared.answers.CopyWhat.TheVariants.{Extend, Vict
 use Rattle.meta_server.specs.Beginning.{copy_begins, with_begin}
 use Rattle.meta_server.specs.Files.{File, MetaView, changed, file_named, file_of, same_name, with_layout}
 use Rattle.meta_server.specs.Layouts.{begun, extended, nexts_over}
-use Rattle.meta_server.specs.Sound.{IsCovered, IsCopied, IsSound, IsSoundFile}
+use Rattle.meta_server.specs.Sound.{IsCovered, IsUnderCopy, IsSound, IsSoundFile}
 use Rattle.meta_server.proofs.Going.{name_found}
 use Rattle.meta_server.proofs.Leasing.{few_taken, holder_taken}
 use Rattle.meta_server.proofs.SoundFiles.{files_changed}
@@ -35,7 +35,7 @@ begin_sound client ids f x m h is few none there valid =
     let n : ℕ = f.number in
     let l : Composite = begun ids n m.nexts f.layout in
     let files = changed n (with_layout l) m.files in
-    let new : IsCopied (file_of n files) = subst IsCopied (sym (same_found n (with_layout l) m.files x (λ y. refl) there)) refl in
+    let new : IsUnderCopy (file_of n files) = subst IsUnderCopy (sym (same_found n (with_layout l) m.files x (λ y. refl) there)) refl in
     with_parts m files (taken client n m.leases) m.next_file (nexts_over (is_named ids) n m.nexts f.layout) h
     (files_changed m.next_file n (with_layout l) m.files (laid_out m.files n l (begun_valid ids n m.nexts f.layout h.nexts valid)) (files_of_sound m h))
     (IsSoundTable-taken client n m.leases is few (no_lease m.leases n none) h.leases)

@@ -7,7 +7,7 @@ use Rattle.layout_lease.specs.declared.lease.KeyState.{KeyState}
 use Rattle.layout_lease.specs.declared.lease.KeyState.TheVariants.{Held, Broken}
 use Rattle.layout_lease.specs.Leases.{TableView, broken_if, holder_of, is_lease_of, is_unbroken}
 use Rattle.meta_server.specs.Files.{File, file_of}
-use Rattle.meta_server.specs.Sound.{IsCopied, IsCovered}
+use Rattle.meta_server.specs.Sound.{IsUnderCopy, IsCovered}
 use Rattle.meta_server.proofs.Placing.{nat_eq_same}
 
 -- none of the leases is an unbroken one of this file
@@ -54,7 +54,7 @@ covered_broken files meant step (lease ∷ leases) h = ((λ un. h.0 (still (mean
     still false state e = e
 
 -- other files, among which each copy that was under way is still
-pub covered_still : (old new : List File) (leases : List Lease) → ((k : ℕ) → IsCopied (file_of k old) → IsCopied (file_of k new)) → AllByRecursion (IsCovered old) leases → AllByRecursion (IsCovered new) leases
+pub covered_still : (old new : List File) (leases : List Lease) → ((k : ℕ) → IsUnderCopy (file_of k old) → IsUnderCopy (file_of k new)) → AllByRecursion (IsCovered old) leases → AllByRecursion (IsCovered new) leases
 covered_still old new [] still h = tt
 covered_still old new (lease ∷ leases) still h = ((λ un. still lease.file (h.0 un)), covered_still old new leases still h.1)
 
@@ -62,7 +62,7 @@ covered_still old new (lease ∷ leases) still h = ((λ un. still lease.file (h.
 pub covered_beside : (n : ℕ) (old new : List File) (leases : List Lease) → ((k : ℕ) → (k ≡ n → ⊥) → file_of k new ≡ file_of k old) → AreFree n leases → AllByRecursion (IsCovered old) leases → AllByRecursion (IsCovered new) leases
 covered_beside n old new [] same free h = tt
 covered_beside n old new (lease ∷ leases) same free h =
-    ((λ un. subst IsCopied (sym (same lease.file (apart un))) (h.0 un)), covered_beside n old new leases same free.1 h.1)
+    ((λ un. subst IsUnderCopy (sym (same lease.file (apart un))) (h.0 un)), covered_beside n old new leases same free.1 h.1)
   where
     apart : is_unbroken lease.state ≡ true → lease.file ≡ n → ⊥
     apart un e =

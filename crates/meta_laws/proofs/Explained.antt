@@ -20,7 +20,8 @@ use Rattle.meta_server.specs.Ending.{copy_ends, merge_ends}
 use Rattle.meta_server.specs.Files.{File, MetaView, changed, file_named, file_of, new_file, with_evicted, with_freed, with_layout, with_share, without_file}
 use Rattle.meta_server.specs.Layouts.{begun, extended, finished, flagged, intended, lessened, merged, nexts_over, split_off}
 use Rattle.meta_server.specs.Naming.{creates, removes, sets}
-use Rattle.meta_server.specs.Opening.{change_opens_file, most_bytes, read_opens}
+use Rattle.flr_base.specs.Limits.{most_bytes}
+use Rattle.meta_server.specs.Opening.{change_opens_file, read_opens}
 use Rattle.meta_server.specs.Sound.{IsSound}
 use Rattle.meta_server.proofs.Placing.{number_found}
 use Rattle.meta_laws.specs.Calls.{Call, OpenRead, OpenWrite, OpenCut, Free, Confirm, Commit, Cut, BeginCopy, CopyDone, MergeDone, GiveUp, Create, Remove, Set, Evict, IsCopyable, MayCall, after_call, confirmed, left_at, left_by}

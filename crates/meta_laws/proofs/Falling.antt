@@ -13,7 +13,8 @@ use Rattle.meta_server.specs.Beginning.{with_begin}
 use Rattle.meta_server.specs.Closing.{holds}
 use Rattle.meta_server.specs.Files.{File, MetaView, file_named, with_layout}
 use Rattle.meta_server.specs.Layouts.{extended, nexts_over}
-use Rattle.meta_server.specs.Opening.{change_opens_file, most_bytes}
+use Rattle.flr_base.specs.Limits.{most_bytes}
+use Rattle.meta_server.specs.Opening.{change_opens_file}
 use Rattle.meta_server.specs.Sound.{IsSound}
 use Rattle.meta_server.proofs.Kept.{length-nexts_after}
 use Rattle.meta_laws.specs.Calls.{Call, OpenRead, OpenWrite, OpenCut, Free, Confirm, Commit, Cut, BeginCopy, CopyDone, MergeDone, GiveUp, Create, Remove, Set, Evict, MayRun, after_call, after_calls, confirmed, left_by}

@@ -5,7 +5,7 @@ use Rattle.std.specs.Option.{option_map}
 use Rattle.std.proofs.lemmas.Bool.Decides.{nat_tests}
 use Rattle.composite_layout.specs.declared.component.State.TheVariants as states
 use Rattle.meta_server.specs.Files.{File, AreAscending, changed, file_of, with_evicted, without_file}
-use Rattle.meta_server.specs.Sound.{IsCopied}
+use Rattle.meta_server.specs.Sound.{IsUnderCopy}
 use Rattle.meta_server.proofs.Leasing.{nat_eq_other}
 use Rattle.meta_server.proofs.Placing.{nat_eq_lower, nat_eq_same, number_found}
 use Rattle.meta_server.proofs.SoundFiles.{file_of_changed}
@@ -59,14 +59,14 @@ same_found n g files f keeps e =
     file_of_changed n n g files keeps ∙ ap (option_map (λ (x : File). cond (nat_eq x.number n) (g x) x)) e ∙ ap (λ (b : Bool). Some (cond b (g f) f)) here
 
 -- where a change puts a copy under way, the copies that were under way stay so
-pub copied_begun : (k n : ℕ) (g : File → File) (files : List File) → ((f : File) → (g f).number ≡ f.number) → ((f : File) → (g f).layout.state ≡ states.SyncPending) → IsCopied (file_of k files) → IsCopied (file_of k (changed n g files))
-copied_begun k n g files keeps state h = subst IsCopied (sym (file_of_changed k n g files keeps)) (by (file_of k files) h)
+pub copied_begun : (k n : ℕ) (g : File → File) (files : List File) → ((f : File) → (g f).number ≡ f.number) → ((f : File) → (g f).layout.state ≡ states.SyncPending) → IsUnderCopy (file_of k files) → IsUnderCopy (file_of k (changed n g files))
+copied_begun k n g files keeps state h = subst IsUnderCopy (sym (file_of_changed k n g files keeps)) (by (file_of k files) h)
   where
     at : (b : Bool) (f : File) → f.layout.state ≡ states.SyncPending → (cond b (g f) f).layout.state ≡ states.SyncPending
     at true f e = state f
     at false f e = e
 
-    by : (o : Option File) → IsCopied o → IsCopied (option_map (λ (f : File). cond (nat_eq f.number n) (g f) f) o)
+    by : (o : Option File) → IsUnderCopy o → IsUnderCopy (option_map (λ (f : File). cond (nat_eq f.number n) (g f) f) o)
     by None h = h
     by (Some f) h = at (nat_eq f.number n) f h
 
@@ -84,19 +84,19 @@ found_without k n (f ∷ fs) apart = by (nat_eq f.number n) refl (found_without 
     by false e rest = ap (λ (o : Option File). cond (nat_eq f.number k) (Some f) o) rest
 
 -- a copy that is under way stays so where a file comes
-pub copied_pushed : (k : ℕ) (files : List File) (x : File) → IsCopied (file_of k files) → IsCopied (file_of k (files ++ x ∷ []))
+pub copied_pushed : (k : ℕ) (files : List File) (x : File) → IsUnderCopy (file_of k files) → IsUnderCopy (file_of k (files ++ x ∷ []))
 copied_pushed k [] x h = absurd h
 copied_pushed k (f ∷ fs) x h = by (nat_eq f.number k) h (copied_pushed k fs x)
   where
-    by : (b : Bool) → IsCopied (cond b (Some f) (file_of k fs)) → (IsCopied (file_of k fs) → IsCopied (file_of k (fs ++ x ∷ []))) → IsCopied (cond b (Some f) (file_of k (fs ++ x ∷ [])))
+    by : (b : Bool) → IsUnderCopy (cond b (Some f) (file_of k fs)) → (IsUnderCopy (file_of k fs) → IsUnderCopy (file_of k (fs ++ x ∷ []))) → IsUnderCopy (cond b (Some f) (file_of k (fs ++ x ∷ [])))
     by true h rest = h
     by false h rest = rest h
 
 -- an eviction leaves the layouts
-pub copied_evicted : (client k : ℕ) (files : List File) → IsCopied (file_of k files) → IsCopied (file_of k (map (with_evicted client) files))
+pub copied_evicted : (client k : ℕ) (files : List File) → IsUnderCopy (file_of k files) → IsUnderCopy (file_of k (map (with_evicted client) files))
 copied_evicted client k [] h = h
 copied_evicted client k (f ∷ fs) h = by (nat_eq f.number k) h (copied_evicted client k fs)
   where
-    by : (b : Bool) → IsCopied (cond b (Some f) (file_of k fs)) → (IsCopied (file_of k fs) → IsCopied (file_of k (map (with_evicted client) fs))) → IsCopied (cond b (Some (with_evicted client f)) (file_of k (map (with_evicted client) fs)))
+    by : (b : Bool) → IsUnderCopy (cond b (Some f) (file_of k fs)) → (IsUnderCopy (file_of k fs) → IsUnderCopy (file_of k (map (with_evicted client) fs))) → IsUnderCopy (cond b (Some (with_evicted client f)) (file_of k (map (with_evicted client) fs)))
     by true h rest = h
     by false h rest = rest h

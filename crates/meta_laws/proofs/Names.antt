@@ -19,7 +19,7 @@ use Rattle.layout_state.specs.Mirroring.{keeping}
 use Rattle.meta_server.specs.Files.{File, MetaView, changed, file_named, is_full, new_file, same_name, with_break, with_evicted, with_eviction, with_file, with_layout}
 use Rattle.meta_server.specs.Layouts.{flagged, lessened, split_off}
 use Rattle.meta_server.specs.Naming.{creates, removes, sets}
-use Rattle.meta_server.specs.Opening.{most_bytes}
+use Rattle.flr_base.specs.Limits.{most_bytes}
 use Rattle.meta_server.specs.Sound.{AreNamedApart, IsSound, IsSoundFile}
 use Rattle.meta_server.proofs.Placing.{ascending_mapped, ascending_push, below_mapped, below_push, length-changed, nat_eq_same}
 use Rattle.meta_laws.specs.Calls.{left_by}

@@ -11,7 +11,8 @@ use Rattle.meta_server.specs.Closing.{commits, cuts, frees, grown, shortened}
 use Rattle.meta_server.specs.Conditions.{MayShare}
 use Rattle.meta_server.specs.Files.{File, MetaView, changed, file_named, file_of, same_name, with_change, with_freed, with_layout, with_share}
 use Rattle.meta_server.specs.Layouts.{intended, nexts_over}
-use Rattle.meta_server.specs.Opening.{change_opens_file, most_bytes, read_opens, with_intent}
+use Rattle.flr_base.specs.Limits.{most_bytes}
+use Rattle.meta_server.specs.Opening.{change_opens_file, read_opens, with_intent}
 use Rattle.meta_server.specs.Sound.{IsSound}
 use Rattle.meta_laws.specs.Calls.{confirmed, left_by}
 use Rattle.meta_laws.proofs.Cases.{open_cases, read_cases}

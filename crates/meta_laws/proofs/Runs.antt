@@ -11,7 +11,7 @@ use Rattle.layout_state.specs.Making.{AreNext}
 use Rattle.layout_state.proofs.MarkLaws.{fresh_there, passes, valid_fresh}
 use Rattle.meta_server.specs.Closing.{holds}
 use Rattle.meta_server.specs.Files.{File, MetaView, new_meta}
-use Rattle.meta_server.specs.Opening.{most_bytes}
+use Rattle.flr_base.specs.Limits.{most_bytes}
 use Rattle.meta_server.specs.Sound.{IsSound, IsSoundFile}
 use Rattle.meta_laws.specs.Calls.{Call, OpenRead, OpenWrite, OpenCut, Free, Confirm, Commit, Cut, BeginCopy, CopyDone, MergeDone, GiveUp, Create, Remove, Set, Evict, IsStart, MayCall, MayRun, after_call, after_calls}
 use Rattle.meta_laws.proofs.Copies.{copy_sound}

@@ -27,7 +27,8 @@ use Rattle.meta_server.specs.Conditions.{MayMerge}
 use Rattle.meta_server.specs.Ending.{with_merge}
 use Rattle.meta_server.specs.Files.{File, MetaView, AreAscending, changed, file_named, file_of, new_file, new_meta, with_break, with_eviction, with_file, with_freed, with_layout, with_share}
 use Rattle.meta_server.specs.Layouts.{begun, extended, finished, flagged, intended, lessened, merged, split_off}
-use Rattle.meta_server.specs.Opening.{change_opens_file, most_bytes, with_intent}
+use Rattle.flr_base.specs.Limits.{most_bytes}
+use Rattle.meta_server.specs.Opening.{change_opens_file, with_intent}
 use Rattle.meta_server.specs.Sound.{IsSound}
 use Rattle.meta_server.proofs.Placing.{ascending_changed, number_found}
 use Rattle.meta_laws.specs.Calls.{Call, OpenRead, OpenWrite, OpenCut, Free, Confirm, Commit, Cut, BeginCopy, CopyDone, MergeDone, GiveUp, Create, Remove, Set, Evict, MayBegin, MayCall, MayRun, after_call, after_calls, confirmed, left_by}

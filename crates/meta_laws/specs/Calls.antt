@@ -15,7 +15,8 @@ use Rattle.meta_server.specs.Conditions.{HasGenerationRoom, HasObjectRoom, IsCop
 use Rattle.meta_server.specs.Ending.{copy_ends, merge_ends}
 use Rattle.meta_server.specs.Files.{MetaView, with_eviction, with_given}
 use Rattle.meta_server.specs.Naming.{creates, removes, sets}
-use Rattle.meta_server.specs.Opening.{cut_opens, most_bytes, read_opens, write_opens}
+use Rattle.flr_base.specs.Limits.{most_bytes}
+use Rattle.meta_server.specs.Opening.{cut_opens, read_opens, write_opens}
 use Rattle.meta_server.specs.Outcomes.{Outcome, Gives, Refuses, Waits, Ending, Ends, Breaks, Holds}
 
 -- a call that may change the server, with what it is given

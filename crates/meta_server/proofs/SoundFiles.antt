@@ -5,7 +5,7 @@ use Rattle.std.specs.Option.{option_map}
 use Rattle.std.proofs.lemmas.Bool.Decides.{nat_tests}
 use Rattle.composite_layout.specs.declared.component.State.TheVariants as states
 use Rattle.meta_server.specs.Files.{File, AreAscending, changed, file_of}
-use Rattle.meta_server.specs.Sound.{AreNamedApart, AreSound, IsCopied, IsFileChange, IsSoundFile}
+use Rattle.meta_server.specs.Sound.{AreNamedApart, AreSound, IsUnderCopy, IsFileChange, IsSoundFile}
 use Rattle.meta_server.proofs.Placing.{ascending_changed, below_changed, length-changed, nat_eq_greater}
 
 -- the file with the number is the one that is found
@@ -95,13 +95,13 @@ file_of_changed k n g (f ∷ fs) keeps =
     by false rest = rest
 
 -- a copy goes on where the state stays
-pub copied_changed : (k n : ℕ) (g : File → File) (files : List File) → ((f : File) → (g f).number ≡ f.number) → ((f : File) → (g f).layout.state ≡ f.layout.state) → IsCopied (file_of k files) → IsCopied (file_of k (changed n g files))
-copied_changed k n g files keeps state h = subst IsCopied (sym (file_of_changed k n g files keeps)) (by (file_of k files) h)
+pub copied_changed : (k n : ℕ) (g : File → File) (files : List File) → ((f : File) → (g f).number ≡ f.number) → ((f : File) → (g f).layout.state ≡ f.layout.state) → IsUnderCopy (file_of k files) → IsUnderCopy (file_of k (changed n g files))
+copied_changed k n g files keeps state h = subst IsUnderCopy (sym (file_of_changed k n g files keeps)) (by (file_of k files) h)
   where
     at : (b : Bool) (f : File) → f.layout.state ≡ states.SyncPending → (cond b (g f) f).layout.state ≡ states.SyncPending
     at true f e = state f ∙ e
     at false f e = e
 
-    by : (o : Option File) → IsCopied o → IsCopied (option_map (λ (f : File). cond (nat_eq f.number n) (g f) f) o)
+    by : (o : Option File) → IsUnderCopy o → IsUnderCopy (option_map (λ (f : File). cond (nat_eq f.number n) (g f) f) o)
     by None h = h
     by (Some f) h = at (nat_eq f.number n) f h

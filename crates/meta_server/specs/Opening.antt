@@ -1,5 +1,6 @@
 -- How a file is opened, for a read, a write or a truncate.
 use Rattle.std.specs.Prelude.{ℕ, Bool, true, false, nat_lt, Option, Some, None, List}
+use Rattle.flr_base.specs.Limits.{most_bytes}
 use Rattle.flr_base.specs.declared.reply.Range.{Range}
 use Rattle.flr_base.specs.declared.reply.Reply.TheVariants as reply
 use Rattle.composite_layout.specs.Choices.{is_ready}
@@ -10,10 +11,6 @@ use Rattle.meta_server.specs.declared.answers.Opened.{Opened}
 use Rattle.meta_server.specs.Files.{File, MetaView, file_named, with_break, with_change, with_layout, with_share}
 use Rattle.meta_server.specs.Layouts.{intended, nexts_over}
 use Rattle.meta_server.specs.Outcomes.{Outcome, Gives, Refuses, Waits}
-
--- the greatest size of a file
-abbrev pub most_bytes : ℕ
-most_bytes = 268435456
 
 -- what a client gets that shares the layout lock of a file
 abbrev pub opened : ℕ → File → Opened

@@ -8,7 +8,7 @@ use Rattle.layout_lease.specs.Leases.{IsSoundTable, is_unbroken}
 use Rattle.layout_lease.specs.Shares.{IsSoundLock}
 use Rattle.layout_state.specs.Making.{AreNext}
 use Rattle.meta_server.specs.Files.{File, MetaView, AreAscending, AreBelow, file_of}
-use Rattle.meta_server.specs.Opening.{most_bytes}
+use Rattle.flr_base.specs.Limits.{most_bytes}
 
 -- no two files have one name
 abbrev pub AreNamedApart : List File → Type 0
@@ -22,13 +22,13 @@ pub record IsSoundFile (f : File) : Type 0 where
   pub size : f.size ≤ most_bytes
 
 -- the file is there, and a copy is under way
-abbrev pub IsCopied : Option File → Type 0
-IsCopied None = ⊥
-IsCopied (Some f) = f.layout.state ≡ states.SyncPending
+abbrev pub IsUnderCopy : Option File → Type 0
+IsUnderCopy None = ⊥
+IsUnderCopy (Some f) = f.layout.state ≡ states.SyncPending
 
 -- while a lease stands its file is there, and a copy is under way
 abbrev pub IsCovered : List File → Lease → Type 0
-IsCovered files lease = is_unbroken lease.state ≡ true → IsCopied (file_of lease.file files)
+IsCovered files lease = is_unbroken lease.state ≡ true → IsUnderCopy (file_of lease.file files)
 
 -- what holds of the server
 pub record IsSound (m : MetaView) : Type 0 where

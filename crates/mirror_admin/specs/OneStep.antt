@@ -1,9 +1,9 @@
 -- The commands of one step: what each answers, and what it leaves of the metadata server.
-use Rattle.std.specs.Prelude.{◌≡◌, ℕ, ◌++◌, Bool, true, false, codes, List, [], Option, Some, None}
-use Rattle.std.specs.Fmt.{decimal}
+use Rattle.std.specs.Prelude.{◌≡◌, ℕ, Bool, true, false, List, [], Option, Some, None}
 use Rattle.flr_base.specs.declared.reply.Reply.{Reply}
 use Rattle.flr_base.specs.declared.reply.Reply.TheVariants as reply
 use Rattle.layout_text.specs.Texts.{text_of_layout}
+use Rattle.lfs_words.specs.Naming.{default_name}
 use Rattle.lfs_words.specs.declared.command.LfsCommand.{LfsCommand}
 use Rattle.lfs_words.specs.declared.command.LfsCommand.TheVariants as lfs
 use Rattle.lfs_words.specs.declared.command.SplitTo.{SplitTo}
@@ -15,14 +15,6 @@ use Rattle.meta_server.specs.Naming.{creates, removes, sets}
 use Rattle.meta_server.specs.Outcomes.{Outcome, Gives, Refuses, Waits, MayLackMemory}
 use Rattle.mirror_admin.specs.declared.answer.Admin.{Admin}
 use Rattle.mirror_admin.specs.declared.answer.Admin.TheVariants.{Answered, Blocked, NoMemory}
-
--- how the name ends of a file that a split makes where it is told none
-abbrev pub default_end : ℕ → List ℕ
-default_end mirror = codes ".mirror~" ++ decimal mirror
-
--- the name of that file
-abbrev pub default_name : List ℕ → ℕ → List ℕ
-default_name name mirror = name ++ default_end mirror
 
 -- whether the command has one step
 abbrev pub is_one_step : LfsCommand → Bool

@@ -4,7 +4,7 @@ ghost use Rattle.std.specs.Prelude.{◌≡◌, ◌≢◌, ◌++◌, ◌↔◌, L
 ghost use Rattle.std.specs.Fmt.{decimal};
 ghost use Rattle.flr_base.specs.Puts.{Puts};
 ghost use Rattle.meta_server.specs.Files.{file_named};
-ghost use Rattle.mirror_admin.specs.OneStep.{default_end, default_name};
+ghost use Rattle.lfs_words.specs.Naming.{default_end, default_name};
 
 use flr_base::{Name, NoMemory, put_decimal};
 use meta_server::Meta;

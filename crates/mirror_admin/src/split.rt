@@ -1,7 +1,8 @@
 ghost use Rattle.std.specs.Prelude.{◌≡◌, ℕ, List, is_some};
 ghost use Rattle.meta_server.specs.Conditions.{HasGenerationRoom, IsRoom};
 ghost use Rattle.meta_server.specs.Files.{file_named};
-ghost use Rattle.mirror_admin.specs.OneStep.{Comes, default_name, deletes, splits, splits_to};
+ghost use Rattle.lfs_words.specs.Naming.{default_name};
+ghost use Rattle.mirror_admin.specs.OneStep.{Comes, deletes, splits, splits_to};
 
 use crate::answer::Admin;
 use crate::names::{default_name, has_default};

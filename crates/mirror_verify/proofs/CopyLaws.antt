@@ -12,7 +12,7 @@ use Rattle.flr_base.specs.declared.reply.Range.{Range}
 use Rattle.extent_lock.proofs.Members.{Contains-filter_parts}
 use Rattle.stripe_map.specs.Places.{place_of}
 use Rattle.composite_layout.specs.declared.component.Component.{Component}
-use Rattle.meta_server.specs.Opening.{most_bytes}
+use Rattle.flr_base.specs.Limits.{most_bytes}
 use Rattle.mirror_select.specs.Candidates.{is_candidate}
 use Rattle.object_target.specs.TargetState.{TargetState}
 use Rattle.call_steps.specs.Pieces.{IsNamed}

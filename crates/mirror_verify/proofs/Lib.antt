@@ -1,4 +1,5 @@
 pub mod CopyLaws
+mod DifferLaws
 pub mod FileLaws
 pub mod LeftLaws
 pub mod ToldLaws

@@ -1,5 +1,5 @@
 -- What a verify says of itself, and what it wants of the servers.
-use Rattle.std.specs.Prelude.{◌≡◌, ℕ, ◌+◌, ◌^◌, ◌<◌, ◌≤◌, List, length, is_some, true}
+use Rattle.std.specs.Prelude.{◌≡◌, ℕ, ◌+◌, ◌^◌, ◌<◌, ◌≤◌, List, length, None, is_some, true}
 use Rattle.std.specs.Option.{ForSome}
 use Rattle.flr_base.specs.declared.reply.Range.{Range}
 use Rattle.composite_layout.specs.Layouts.{IsValid}
@@ -7,7 +7,7 @@ use Rattle.layout_lease.specs.Clients.{IsClient}
 use Rattle.object_target.specs.TargetState.{TargetState}
 use Rattle.meta_server.specs.Conditions.{MayShare}
 use Rattle.meta_server.specs.Files.{File, MetaView, file_named}
-use Rattle.meta_server.specs.Opening.{most_bytes}
+use Rattle.flr_base.specs.Limits.{most_bytes}
 use Rattle.call_steps.specs.Servers.{AreThere, CanCall}
 use Rattle.mirror_verify.specs.declared.copies.BlockCopy.{BlockCopy}
 use Rattle.mirror_verify.specs.declared.phase.VerifyAt.{VerifyAt}
@@ -62,8 +62,11 @@ pub record VerifyFits (v : VerifyView) (m : MetaView) (targets : List TargetStat
   pub calls : CanCall targets
   pub phase : FitsAt v.at v m targets
 
--- close takes no memory
-abbrev pub TakesNoMemory : VerifyAt → Type 0
-TakesNoMemory at.Open = ⊥
-TakesNoMemory (at.Take x next) = ⊥
-TakesNoMemory (at.Close x fault) = Unit {0}
+-- the steps that take no memory: an open of a file that isn't there, and close
+abbrev pub IsFreeAt : VerifyAt → VerifyView → MetaView → Type 0
+IsFreeAt at.Open v m = file_named v.name m.files ≡ None
+IsFreeAt (at.Take x next) v m = ⊥
+IsFreeAt (at.Close x fault) v m = Unit {0}
+
+abbrev pub TakesNoMemory : VerifyView → MetaView → Type 0
+TakesNoMemory v m = IsFreeAt v.at v m

@@ -4,7 +4,7 @@ ghost use Rattle.std.specs.Prelude.{◌≡◌, ◌<◌, ◌≤◌, ◌^◌, ◌+
 ghost use Rattle.composite_layout.specs.Layouts.{IsShaped};
 ghost use Rattle.std.specs.List.{AllByRecursion};
 ghost use Rattle.flr_base.specs.Stripes.{IsStripe};
-ghost use Rattle.meta_server.specs.Opening.{most_bytes};
+ghost use Rattle.flr_base.specs.Limits.{most_bytes};
 ghost use Rattle.mirror_select.specs.Candidates.{is_candidate};
 ghost use Rattle.mirror_verify.specs.Blocks.{block, block_count, copies_in, copies_of, copy_of, holders};
 

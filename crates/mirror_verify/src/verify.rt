@@ -1,4 +1,4 @@
-ghost use Rattle.std.specs.Prelude.{◌≡◌, ◌↔◌, IsTrue, ◌^◌, ◌<◌, ◌≤◌, [], List, length, option_map, IfSome};
+ghost use Rattle.std.specs.Prelude.{◌≡◌, ◌↔◌, IsTrue, ◌^◌, ◌<◌, ◌≤◌, [], List, None, length, option_map, IfSome};
 ghost use Rattle.extent_lock.specs.declared.lock.Lock.{Lock};
 ghost use Rattle.flr_base.specs.declared.reply.Progress.TheVariants as progress;
 ghost use Rattle.flr_base.specs.declared.reply.Reply.TheVariants as reply;
@@ -72,11 +72,11 @@ impl VerifyCall {
     }
 
     /// Makes the next step. One for which memory runs out hands the call back, and leaves everything
-    /// as it was; none is blocked. Close takes no memory.
+    /// as it was; none is blocked. An open of a file that isn't there, and close, take no memory.
     pub fn step(self, meta: &mut Meta, targets: &mut Targets, _step: u32) -> Progress<VerifyCall>
         requires fits { VerifyFits self meta.old targets.old }
         ensures step { (locks : List Lock) → Steps self (servers meta.old targets.old locks) result (servers meta.new targets.new locks) (verify_step self _step (servers meta.old targets.old locks)) }
-        ensures free { TakesNoMemory self.at → HasMemory result }
+        ensures free { TakesNoMemory self meta.old → HasMemory result }
     {
         let VerifyCall { asked, at } = self;
         match at {
@@ -120,6 +120,7 @@ impl Asked {
         requires share { MayShare self.client self.name meta.old }
         requires small { IsSmall self.name meta.old }
         ensures step { (targets : List TargetState) (locks : List Lock) → Steps (verify_by self at.Open) (servers meta.old targets locks) result (servers meta.new targets locks) (verify_at at.Open (verify_by self at.Open) (servers meta.old targets locks)) }
+        ensures free { file_named self.name meta.old.files ≡ None → HasMemory result }
     {
         let Some(place) = place_named(meta, &self.name) else {
             return self.no_file();

@@ -1,10 +1,11 @@
 -- What each command may answer where the store is this, and what it leaves of it.
-use Rattle.std.specs.Prelude.{◌≡◌, ◌⊎◌, ℕ, ◌+◌, ◌≤◌, ◌<◌, List, [], ◌∷◌, ◌++◌, length, take, drop, codes, Option, None, Some, slice_set}
+use Rattle.std.specs.Prelude.{◌≡◌, ◌⊎◌, ℕ, ◌+◌, ◌≤◌, ◌<◌, List, [], ◌∷◌, ◌++◌, length, take, drop, Option, None, Some, slice_set}
 use Rattle.std.specs.List.{remove}
-use Rattle.std.specs.Fmt.{decimal}
 use Rattle.flr_base.specs.Bytes.{overlay}
+use Rattle.flr_base.specs.Limits.{most_bytes}
 use Rattle.flr_base.specs.declared.reply.Reply.{Reply}
 use Rattle.flr_base.specs.declared.reply.Reply.TheVariants as reply
+use Rattle.lfs_words.specs.Naming.{default_name}
 use Rattle.lfs_words.specs.declared.command.LfsCommand.{LfsCommand}
 use Rattle.lfs_words.specs.declared.command.LfsCommand.TheVariants as lfs
 use Rattle.lfs_words.specs.declared.command.SplitTo.{SplitTo}
@@ -13,17 +14,9 @@ use Rattle.script_values.specs.declared.command.Command.{Command}
 use Rattle.script_values.specs.declared.command.Command.TheVariants as command
 use Rattle.plain_files.specs.Files.{Plain, Sent, Ranges, Tails, IsPresent, IsAbsent, AreSameBytes, plain_of, plain_at, bytes_of, land, fit, wipe}
 
--- the greatest size of a file
-abbrev pub most_bytes : ℕ
-most_bytes = 268435456
-
 -- how many files there may be
 abbrev pub most_files : ℕ
 most_files = 16
-
--- the name that a split gives where it is told none
-abbrev pub default_name : List ℕ → ℕ → List ℕ
-default_name name mirror = name ++ (codes ".mirror~" ++ decimal mirror)
 
 -- ---- what a command may answer
 

@@ -1,6 +1,6 @@
 //! Reports into a sink, piece by piece.
 
-ghost use Rattle.std.specs.Prelude.{◌≡◌, ◌≤◌, ◌++◌, ◌∷◌, [], Err, IfOk};
+ghost use Rattle.std.specs.Prelude.{◌≡◌, ◌≢◌, ◌≤◌, ◌++◌, ◌∷◌, [], Err, IfOk};
 ghost use Rattle.std.specs.List.{AllByRecursion};
 ghost use Rattle.flr_base.specs.Causes.{HasCause, Rose};
 ghost use Rattle.flr_base.specs.Streams.{WritesFront};
@@ -25,6 +25,7 @@ fn write_text<K: Sink>(out: &mut K, text: &[u8]) -> Result<(), WriteError>
     ensures front { WritesFront (K.taken out.old) (K.taken out.new) result text.now }
     ensures later { K.faults out.old ≤ K.faults out.new }
     ensures failed { result ≡ Err WriteError.Failed → Rose (K.faults out.old) (K.faults out.new) }
+    ensures kept { result ≢ Err WriteError.Failed → K.faults out.new ≡ K.faults out.old }
 {
     match write_all(out, text) {
         Ok(()) => Ok(()),
@@ -54,6 +55,7 @@ pub fn write_call<K: Sink>(
     ensures front { WritesFront (K.taken out.old) (K.taken out.new) result (text_of_call entry.now command.now) }
     ensures later { K.faults out.old ≤ K.faults out.new }
     ensures failed { result ≡ Err WriteError.Failed → Rose (K.faults out.old) (K.faults out.new) }
+    ensures kept { result ≢ Err WriteError.Failed → K.faults out.new ≡ K.faults out.old }
 {
     let text = call_text(alloc, entry, command)?;
     write_text(out, &text)
@@ -84,6 +86,7 @@ pub fn write_file<K: Sink>(
     ensures front { WritesFront (K.taken out.old) (K.taken out.new) result (text_of_file name.now size layout.now) }
     ensures later { K.faults out.old ≤ K.faults out.new }
     ensures failed { result ≡ Err WriteError.Failed → Rose (K.faults out.old) (K.faults out.new) }
+    ensures kept { result ≢ Err WriteError.Failed → K.faults out.new ≡ K.faults out.old }
 {
     let line = file_text(alloc, name, size)?;
     let text = print_layout(alloc, layout)?;
@@ -95,6 +98,7 @@ fn write_runs<K: Sink>(alloc: Global, out: &mut K, schedule: &[u8]) -> Result<()
     ensures front { WritesFront (K.taken out.old) (K.taken out.new) result (runs_words schedule.now) }
     ensures later { K.faults out.old ≤ K.faults out.new }
     ensures failed { result ≡ Err WriteError.Failed → Rose (K.faults out.old) (K.faults out.new) }
+    ensures kept { result ≢ Err WriteError.Failed → K.faults out.new ≡ K.faults out.old }
 {
     let mut rest = schedule;
     while !rest.is_empty() {
@@ -115,6 +119,7 @@ pub fn write_schedule<K: Sink>(
     ensures front { WritesFront (K.taken out.old) (K.taken out.new) result (text_of_schedule schedule.now) }
     ensures later { K.faults out.old ≤ K.faults out.new }
     ensures failed { result ≡ Err WriteError.Failed → Rose (K.faults out.old) (K.faults out.new) }
+    ensures kept { result ≢ Err WriteError.Failed → K.faults out.new ≡ K.faults out.old }
 {
     write_text(out, b"schedule")?;
     write_runs(alloc, out, schedule)?;
@@ -126,6 +131,7 @@ fn write_calls<K: Sink>(alloc: Global, out: &mut K, calls: &[Call]) -> Result<()
     ensures front { WritesFront (K.taken out.old) (K.taken out.new) result (text_of_calls calls.now) }
     ensures later { K.faults out.old ≤ K.faults out.new }
     ensures failed { result ≡ Err WriteError.Failed → Rose (K.faults out.old) (K.faults out.new) }
+    ensures kept { result ≢ Err WriteError.Failed → K.faults out.new ≡ K.faults out.old }
 {
     for call in calls {
         write_call(alloc, out, &call.entry, &call.command)?;
@@ -137,6 +143,7 @@ fn write_files<K: Sink>(alloc: Global, out: &mut K, files: &[FileLine]) -> Resul
     ensures front { WritesFront (K.taken out.old) (K.taken out.new) result (text_of_files files.now) }
     ensures later { K.faults out.old ≤ K.faults out.new }
     ensures failed { result ≡ Err WriteError.Failed → Rose (K.faults out.old) (K.faults out.new) }
+    ensures kept { result ≢ Err WriteError.Failed → K.faults out.new ≡ K.faults out.old }
 {
     for file in files {
         write_file(alloc, out, &file.name, file.size, &file.layout)?;
@@ -146,12 +153,14 @@ fn write_files<K: Sink>(alloc: Global, out: &mut K, files: &[FileLine]) -> Resul
 
 /// Writes the report: a first line, the lines of each call with its answer, those of each file with
 /// its layout, and who stepped. Its text goes to the sink piece by piece, so that it is never held
-/// whole. Without an answer Ok the sink took a front of it.
+/// whole. Without an answer Ok the sink took a front of it. Want of memory is no answer where the sink
+/// failed.
 pub fn write_report<K: Sink>(alloc: Global, out: &mut K, report: &Report) -> Result<(), WriteError>
     requires { AllByRecursion IsWritable report.now.calls }
     ensures front { WritesFront (K.taken out.old) (K.taken out.new) result (text_of_report report.now) }
     ensures later { K.faults out.old ≤ K.faults out.new }
     ensures failed { result ≡ Err WriteError.Failed → Rose (K.faults out.old) (K.faults out.new) }
+    ensures kept { result ≢ Err WriteError.Failed → K.faults out.new ≡ K.faults out.old }
 {
     let calls = report.calls.as_slice();
     let files = report.files.as_slice();

@@ -35,7 +35,7 @@ use Rattle.resync_copy.specs.declared.parts.CopyObject.{CopyObject}
 use Rattle.resync_copy.specs.declared.parts.Destination.{Destination}
 use Rattle.resync_copy.specs.declared.phase.CopyStage.TheVariants as stage
 use Rattle.resync_copy.specs.Copies.{clears, fences_from, next_reset, object_at, resets_at, resets_from, settles_from}
-use Rattle.resync_copy.specs.Fitting.{IsCopying, IsDestination, IsSoundStage, StageTakesNoMemory}
+use Rattle.resync_copy.specs.Fitting.{IsCopying, HasItsObjects, IsSoundStage, StageTakesNoMemory}
 use Rattle.resync_copy.specs.Parts.{all_left, destination_with, is_open, objects_in, objects_of, objects_with, with_id}
 use Rattle.resync_copy.specs.Views.{CopyingView, begun_copy, fences_of, resets_of}
 use Rattle.resync_copy.proofs.PartLaws.{shaped, with_id_in}
@@ -153,13 +153,13 @@ has_init true c file nexts h = by c.flags.init refl
     by true e = e
     by false e = refl
 
-found : (ids : List ℕ) (file : ℕ) (nexts : List ℕ) (cs : List Component) (id : ℕ) → is_among id (map (λ (c : Component). c.id) cs) ≡ true → In id ids → IsDestination (with_new_objects (is_named ids) file nexts cs) id
+found : (ids : List ℕ) (file : ℕ) (nexts : List ℕ) (cs : List Component) (id : ℕ) → is_among id (map (λ (c : Component). c.id) cs) ≡ true → In id ids → HasItsObjects (with_new_objects (is_named ids) file nexts cs) id
 found ids file nexts [] id h i = absurd (false≢true h)
 found ids file nexts (c ∷ cs) id h i =
     let d : Component = with_made c (made_for (gets_objects (is_named ids) c) file nexts c) in
     let same : d.id ≡ c.id = ap (λ (f : Frame). f.id) (made_frame (gets_objects (is_named ids) c) file nexts c) in
     let rest : List Component = with_new_objects (is_named ids) file (nexts_for (gets_objects (is_named ids) c) file nexts c) cs in
-    elim (cases_Bool (eqb c.id id)) as (λ _. IsDestination (d ∷ rest) id) [
+    elim (cases_Bool (eqb c.id id)) as (λ _. HasItsObjects (d ∷ rest) id) [
       | inl e ↦ (
         d,
         ap (λ (b : Bool). cond b (Some d) (with_id rest id)) (ap (λ k. eqb k id) same ∙ e),
@@ -170,12 +170,12 @@ found ids file nexts (c ∷ cs) id h i =
           (there.0, ap (λ (b : Bool). cond b (Some d) (with_id rest id)) (ap (λ k. eqb k id) same ∙ e) ∙ there.1, there.2)
     ]
 
-found_each : (ids : List ℕ) (file : ℕ) (nexts : List ℕ) (cs : List Component) (some : List ℕ) → ((id : ℕ) → In id some → In id ids) → ((id : ℕ) → In id ids → is_among id (map (λ (c : Component). c.id) cs) ≡ true) → AllByRecursion (IsDestination (with_new_objects (is_named ids) file nexts cs)) some
+found_each : (ids : List ℕ) (file : ℕ) (nexts : List ℕ) (cs : List Component) (some : List ℕ) → ((id : ℕ) → In id some → In id ids) → ((id : ℕ) → In id ids → is_among id (map (λ (c : Component). c.id) cs) ≡ true) → AllByRecursion (HasItsObjects (with_new_objects (is_named ids) file nexts cs)) some
 found_each ids file nexts cs [] within are = tt
 found_each ids file nexts cs (id ∷ some) within are = let here : In id ids = within id (inl refl) in (found ids file nexts cs id (are id here) here, found_each ids file nexts cs some (λ k i. within k (inr i)) are)
 
 -- of the first of them there is an object
-some_reset : (l : Composite) → IsValid l → (ids : List ℕ) → (length ids == 0) ≡ false → AllByRecursion (IsDestination l.components) ids → 0 < length (objects_in l.components ids)
+some_reset : (l : Composite) → IsValid l → (ids : List ℕ) → (length ids == 0) ≡ false → AllByRecursion (HasItsObjects l.components) ids → 0 < length (objects_in l.components ids)
 some_reset l v [] e a = absurd (cc)
 some_reset l v (id ∷ ids) e a =
     let c : Component = a.0.0 in
@@ -190,8 +190,8 @@ pub begun_sound : (client : ℕ) (name : List ℕ) (what : CopyWhat) (m after : 
 begun_sound client name what m after side ids e v =
     let b : IsBegun side ids = of_file client m side ids after name what (file_named name m.files) e in
     let cs : List Component = b.old.components in
-    let each : AllByRecursion (IsDestination side.layout.components) ids =
-    subst (λ (l : Composite). AllByRecursion (IsDestination l.components) ids) (sym b.layout)
+    let each : AllByRecursion (HasItsObjects side.layout.components) ids =
+    subst (λ (l : Composite). AllByRecursion (HasItsObjects l.components) ids) (sym b.layout)
     (found_each ids b.file b.nexts cs ids (λ id i. i)
     (λ id i. among_all (is_selected b.only cs) cs id (sym (among_in_order id (map (λ (c : Component). c.id) (filter (is_selected b.only cs) cs))) ∙ ap (is_among id) (sym b.are) ∙ among id ids i))) in
     (record { valid = v; each = each; as_many = length-map ids (destination_with side.layout.components) }, some_reset side.layout v ids b.some each)

@@ -14,7 +14,7 @@ use Rattle.layout_state.proofs.ChoiceLaws.{is_among}
 use Rattle.layout_state.proofs.SelectLaws.{among_in_order}
 use Rattle.mirror_select.proofs.Least.{In, found_in, get_there}
 use Rattle.mirror_select.proofs.Sound.{every_in, one_id}
-use Rattle.meta_server.specs.Opening.{most_bytes}
+use Rattle.flr_base.specs.Limits.{most_bytes}
 use Rattle.object_target.specs.TargetState.{TargetState}
 use Rattle.call_steps.specs.Pieces.{IsNamed}
 use Rattle.call_steps.specs.Servers.{AreThere}

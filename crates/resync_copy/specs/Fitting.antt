@@ -5,8 +5,10 @@ use Rattle.composite_layout.specs.declared.component.Component.{Component}
 use Rattle.composite_layout.specs.Layouts.{IsValid}
 use Rattle.layout_lease.specs.Clients.{IsClient}
 use Rattle.layout_lease.specs.Leases.{keys_of}
+use Rattle.meta_server.specs.Beginning.{copy_begins}
 use Rattle.meta_server.specs.Conditions.{HasGenerationRoom, HasObjectRoom, IsCopyOf, IsRoom}
-use Rattle.meta_server.specs.Opening.{most_bytes}
+use Rattle.flr_base.specs.Limits.{most_bytes}
+use Rattle.meta_server.specs.Outcomes.{MayLackMemory}
 use Rattle.call_steps.specs.Servers.{Servers, AreThere, CanCall, HoldsNone}
 use Rattle.resync_copy.specs.declared.phase.Chunk.{Chunk}
 use Rattle.resync_copy.specs.declared.phase.CopyAt.{CopyAt}
@@ -25,13 +27,13 @@ use Rattle.resync_copy.specs.Sizes.{IsSmall}
 use Rattle.resync_copy.specs.Views.{CopyingView, begun_copy, fences_of, resets_of}
 
 -- the id is that of a component that has its objects
-abbrev pub IsDestination : List Component → ℕ → Type 0
-IsDestination cs id = (c : Component) × (with_id cs id ≡ Some c) × (c.flags.init ≡ true)
+abbrev pub HasItsObjects : List Component → ℕ → Type 0
+HasItsObjects cs id = (c : Component) × (with_id cs id ≡ Some c) × (c.flags.init ≡ true)
 
 -- the layout is valid, and each id is that of a destination with its objects
 pub record IsCopying (x : CopyingView) : Type 0 where
   pub valid : IsValid x.side.layout
-  pub each : AllByRecursion (IsDestination x.side.layout.components) x.ids
+  pub each : AllByRecursion (HasItsObjects x.side.layout.components) x.ids
   pub as_many : length x.destinations ≡ length x.ids
 
 -- the chunk has a byte of its destination and of the file
@@ -110,7 +112,11 @@ StageTakesNoMemory (stage.Take h) = ⊥
 StageTakesNoMemory (stage.Put h bytes) = ⊥
 StageTakesNoMemory (stage.Done key cleared left) = Unit {0}
 
-abbrev pub TakesNoMemory : CopyAt → Type 0
-TakesNoMemory at.Begin = ⊥
-TakesNoMemory (at.Copy next) = StageTakesNoMemory next
-TakesNoMemory (at.Merge next) = MergeTakesNoMemory next
+-- the steps that take no memory: a begin that is refused with an answer that names no file, and those stages
+abbrev pub IsFreeAt : CopyAt → CopyView → Servers → Type 0
+IsFreeAt at.Begin c s = ¬ MayLackMemory (copy_begins c.client c.name c.what s.meta)
+IsFreeAt (at.Copy next) c s = StageTakesNoMemory next
+IsFreeAt (at.Merge next) c s = MergeTakesNoMemory next s.meta
+
+abbrev pub TakesNoMemory : CopyView → Servers → Type 0
+TakesNoMemory c s = IsFreeAt c.at c s

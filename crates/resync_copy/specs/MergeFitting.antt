@@ -5,7 +5,10 @@ use Rattle.composite_layout.specs.declared.component.Component.{Component}
 use Rattle.composite_layout.specs.Layouts.{IsValid}
 use Rattle.layout_lease.specs.Leases.{KeyView}
 use Rattle.meta_server.specs.Conditions.{HasGenerationRoom, MayMerge}
-use Rattle.meta_server.specs.Opening.{most_bytes}
+use Rattle.meta_server.specs.Ending.{merge_ends}
+use Rattle.meta_server.specs.Files.{MetaView}
+use Rattle.flr_base.specs.Limits.{most_bytes}
+use Rattle.meta_server.specs.Outcomes.{IsTakenIn}
 use Rattle.call_steps.specs.Servers.{Servers, AreThere, HoldsNone}
 use Rattle.resync_copy.specs.declared.merge_phase.MergeStage.{MergeStage}
 use Rattle.resync_copy.specs.declared.merge_phase.MergeStage.TheVariants as merge
@@ -56,15 +59,15 @@ MergeFits (merge.TakeOurs p) c s = AreThere s.targets p.comparing.ours.layout.co
 MergeFits (merge.TakeTheirs p ours) c s = AreThere s.targets p.comparing.theirs.layout.components
 MergeFits (merge.Done ours theirs refusal) c s = MayEnd ours theirs refusal s
 
--- done with a refusal takes no memory; only where their file is taken in is there any need of it
-abbrev pub IsRefused : Option Reply → Type 0
-IsRefused None = ⊥
-IsRefused (Some kept) = Unit {0}
+-- a done takes no memory that refuses, finds a lease broken or is blocked
+abbrev pub DoneTakesNoMemory : KeyView → KeyView → Option Reply → MetaView → Type 0
+DoneTakesNoMemory ours theirs (Some refusal) m = Unit {0}
+DoneTakesNoMemory ours theirs None m = ¬ IsTakenIn (merge_ends ours theirs m)
 
--- the stages that take no memory: settle, and a done that refuses
-abbrev pub MergeTakesNoMemory : MergeStage → Type 0
-MergeTakesNoMemory (merge.Fence x next) = ⊥
-MergeTakesNoMemory (merge.Settle x) = Unit {0}
-MergeTakesNoMemory (merge.TakeOurs p) = ⊥
-MergeTakesNoMemory (merge.TakeTheirs p ours) = ⊥
-MergeTakesNoMemory (merge.Done ours theirs refusal) = IsRefused refusal
+-- the stages that take no memory: settle, and a done that doesn't take the victim in
+abbrev pub MergeTakesNoMemory : MergeStage → MetaView → Type 0
+MergeTakesNoMemory (merge.Fence x next) m = ⊥
+MergeTakesNoMemory (merge.Settle x) m = Unit {0}
+MergeTakesNoMemory (merge.TakeOurs p) m = ⊥
+MergeTakesNoMemory (merge.TakeTheirs p ours) m = ⊥
+MergeTakesNoMemory (merge.Done ours theirs refusal) m = DoneTakesNoMemory ours theirs refusal m

@@ -3,7 +3,7 @@ use Rattle.std.specs.Prelude.{ℕ, ◌≤◌}
 use Rattle.std.specs.Option.{ForSome}
 use Rattle.meta_server.specs.Closing.{size_of}
 use Rattle.meta_server.specs.Files.{MetaView}
-use Rattle.meta_server.specs.Opening.{most_bytes}
+use Rattle.flr_base.specs.Limits.{most_bytes}
 
 -- the file isn't too big
 abbrev pub IsSmall : ℕ → MetaView → Type 0

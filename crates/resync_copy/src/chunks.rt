@@ -3,7 +3,7 @@ ghost use Rattle.std.specs.Option.{ForSome, option_copied};
 ghost use Rattle.stripe_map.specs.Places.{place_of};
 ghost use Rattle.composite_layout.specs.Layouts.{IsShaped, IsValid};
 ghost use Rattle.call_steps.specs.Pieces.{IsNamed, object_of};
-ghost use Rattle.meta_server.specs.Opening.{most_bytes};
+ghost use Rattle.flr_base.specs.Limits.{most_bytes};
 ghost use Rattle.mirror_select.specs.Candidates.{chosen};
 ghost use Rattle.mirror_select.specs.Pieces.{piece_at};
 ghost use Rattle.resync_copy.specs.Chunks.{chunk_range, chunk_start, chunks_below, chunks_between, first_solid, is_hole, piece_in};

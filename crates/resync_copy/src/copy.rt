@@ -3,7 +3,9 @@ ghost use Rattle.extent_lock.specs.declared.lock.Lock.{Lock};
 ghost use Rattle.layout_lease.specs.Clients.{IsClient};
 ghost use Rattle.layout_lease.specs.Leases.{keys_of};
 ghost use Rattle.object_target.specs.TargetState.{TargetState};
+ghost use Rattle.meta_server.specs.Beginning.{copy_begins};
 ghost use Rattle.meta_server.specs.Conditions.{HasGenerationRoom, HasObjectRoom, IsCopyOf, IsRoom};
+ghost use Rattle.meta_server.specs.Outcomes.{MayLackMemory};
 ghost use Rattle.call_steps.specs.Servers.{servers};
 ghost use Rattle.call_steps.specs.Steps.{HasMemory, Steps};
 ghost use Rattle.resync_copy.specs.Copies.{copy_by, new_copy};
@@ -74,8 +76,8 @@ impl CopyCall {
     }
 
     /// Makes the next step, at this place. One that is blocked, or for which memory runs out, hands
-    /// the call back, and leaves everything as it was. Settle and done take no memory, but for a done
-    /// that takes the victim in.
+    /// the call back, and leaves everything as it was. A begin that is refused with an answer that names
+    /// no file, settle and done take no memory, but for a done that takes the victim in.
     pub fn step(
         self,
         meta: &mut Meta,
@@ -85,7 +87,7 @@ impl CopyCall {
     ) -> Progress<CopyCall>
         requires fits { CopyFits self (servers meta.old targets.old locks.old) }
         ensures step { Steps self (servers meta.old targets.old locks.old) result (servers meta.new targets.new locks.new) (copy_step self _step (servers meta.old targets.old locks.old)) }
-        ensures free { TakesNoMemory self.at → HasMemory result }
+        ensures free { TakesNoMemory self (servers meta.old targets.old locks.old) → HasMemory result }
     {
         let CopyCall { asked, phase } = self;
         match phase {
@@ -142,6 +144,7 @@ impl Asked {
         requires generations { HasGenerationRoom meta.old }
         requires objects { HasObjectRoom meta.old }
         ensures step { (targets : List TargetState) (locks : List Lock) → Steps (copy_by self at.Begin) (servers meta.old targets locks) result (servers meta.new targets locks) (copy_at at.Begin (copy_by self at.Begin) (servers meta.old targets locks)) }
+        ensures free { ¬ MayLackMemory (copy_begins self.client self.name self.what meta.old) → HasMemory result }
     {
         match meta.begin_copy(self.client, &self.name, &self.what) {
             Ok(Begun::Nothing) => Progress::Answered {

@@ -2,7 +2,9 @@ ghost use Rattle.std.specs.Prelude.{◌≡◌, List, None, Some, option_map};
 ghost use Rattle.extent_lock.specs.declared.lock.Lock.{Lock};
 ghost use Rattle.object_target.specs.TargetState.{TargetState};
 ghost use Rattle.meta_server.specs.Conditions.{HasGenerationRoom, MayMerge};
+ghost use Rattle.meta_server.specs.Ending.{merge_ends};
 ghost use Rattle.meta_server.specs.Files.{MetaView};
+ghost use Rattle.meta_server.specs.Outcomes.{IsTakenIn};
 ghost use Rattle.call_steps.specs.Servers.{servers, AreThere, CanCall};
 ghost use Rattle.call_steps.specs.Steps.{HasMemory, Steps};
 ghost use Rattle.resync_copy.specs.Copies.{copy_by, first_writer};
@@ -41,7 +43,7 @@ impl Asked {
         requires calls { CanCall targets.old }
         requires fits { MergeFits stage (copy_by self (at.Merge stage)) (servers meta.old targets.old locks.now) }
         ensures step { Steps (copy_by self (at.Merge stage)) (servers meta.old targets.old locks.now) result (servers meta.new targets.new locks.now) (merge_stage_at stage (copy_by self (at.Merge stage)) (servers meta.old targets.old locks.now)) }
-        ensures free { MergeTakesNoMemory stage → HasMemory result }
+        ensures free { MergeTakesNoMemory stage meta.old → HasMemory result }
     {
         match stage {
             MergeStage::Fence { comparing, next } => self.merge_fence(comparing, next, targets),
@@ -189,6 +191,7 @@ impl Asked {
         requires keys { MayMerge ours theirs meta.old }
         requires generations { HasGenerationRoom meta.old }
         ensures step { (targets : List TargetState) (locks : List Lock) → Steps (copy_by self (at.Merge (merge.Done ours theirs None))) (servers meta.old targets locks) result (servers meta.new targets locks) (merge_stage_at (merge.Done ours theirs None) (copy_by self (at.Merge (merge.Done ours theirs None))) (servers meta.old targets locks)) }
+        ensures free { ¬ IsTakenIn (merge_ends ours theirs meta.old) → HasMemory result }
     {
         match meta.merge_done(ours, theirs) {
             Ok(ids) => Progress::Answered {

@@ -1,6 +1,6 @@
 ghost use Rattle.std.specs.Prelude.{◌≡◌, ◌<◌, ◌≤◌, length};
 ghost use Rattle.composite_layout.specs.Layouts.{IsValid};
-ghost use Rattle.meta_server.specs.Opening.{most_bytes};
+ghost use Rattle.flr_base.specs.Limits.{most_bytes};
 ghost use Rattle.resync_copy.specs.Comparing.{comparing_of, has_fences};
 ghost use Rattle.resync_copy.specs.Fitting.{IsSoundAt, IsSoundPhase};
 ghost use Rattle.resync_copy.specs.MergeFitting.{IsComparing, IsSoundMerge};

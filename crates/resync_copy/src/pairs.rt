@@ -1,7 +1,7 @@
 ghost use Rattle.std.specs.Prelude.{◌≡◌, ◌^◌, ◌<◌, ◌≤◌};
 ghost use Rattle.std.specs.Option.{ForSome};
 ghost use Rattle.call_steps.specs.Pieces.{IsNamed, object_of};
-ghost use Rattle.meta_server.specs.Opening.{most_bytes};
+ghost use Rattle.flr_base.specs.Limits.{most_bytes};
 ghost use Rattle.resync_copy.specs.Chunks.{chunk_start};
 ghost use Rattle.resync_copy.specs.MergeFitting.{HasObjects, IsComparing, IsPair, IsSoundMerge};
 ghost use Rattle.resync_copy.specs.Merges.{are_holes, byte_at, compares, first_difference, has_no_source, is_solid, next_pair, our_piece, our_source, pair_at, pairs_from, range_of, starts_pair, starts_theirs, their_piece, their_source, theirs_from};

@@ -103,7 +103,7 @@ scheduled_again before line rest script runs h text words text_after nothing =
     (bind (all_skipped knows (length before + 1) rest) (λ _. whole_of before p.part >>= λ s. okay (s, runs)) tt (okay (script, runs)) skipped
     (bind (whole_of before p.part) (λ s. okay (s, runs)) script (okay (script, runs)) whole refl)))
 
-replay_again : (text : List ℕ) (script : ScriptView) (runs : List ClientRun) → SpellsReplay text script runs → replay_of text ≡ okay (script, runs)
+pub replay_again : (text : List ℕ) (script : ScriptView) (runs : List ClientRun) → SpellsReplay text script runs → replay_of text ≡ okay (script, runs)
 unfolding replay_of
 replay_again text script runs h =
     rw (le-ltb 67108864 (length text) h.short, le-ltb 1048576 (size_of_lines (before_schedule (lines_in text))) h.few)

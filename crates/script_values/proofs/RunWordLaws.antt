@@ -12,7 +12,7 @@ use Rattle.flr_base.specs.Runs.{hex, run_text, runs_text, bytes_of, AreRuns, Are
 use Rattle.flr_base.specs.declared.runs.run.Run.{Run}
 use Rattle.flr_base.specs.declared.runs.fault.RunsError.{RunsError}
 use Rattle.flr_base.specs.declared.runs.fault.RunsError.TheVariants as errors
-use Rattle.flr_base.specs.RunsAnswers.{IsFault}
+use Rattle.flr_base.specs.RunsAnswers.{IsRunsFault}
 use Rattle.flr_base.proofs.RunLaws.{one_value}
 use Rattle.text_words.specs.Bytes.{hex_digit, hex_byte}
 use Rattle.text_words.specs.Pieces.{Lacks, AllLack, parts_of}
@@ -134,7 +134,7 @@ from_none least most word few h = by_option (bytes_from least most word) refl
 -- ---- for the reader
 
 -- what isn't read spells nothing, or too much
-pub refused_is_none : (least most : ℕ) (word : List ℕ) (r : Result (List ℕ) RunsError) (e : RunsError) → most < 2 ^ 32 → MatchResult r (λ bytes. Spells word bytes × (length bytes ≤ most)) (IsFault word most) → r ≡ Err e → (e ≡ errors.NoMemory → ⊥)
+pub refused_is_none : (least most : ℕ) (word : List ℕ) (r : Result (List ℕ) RunsError) (e : RunsError) → most < 2 ^ 32 → MatchResult r (λ bytes. Spells word bytes × (length bytes ≤ most)) (IsRunsFault word most) → r ≡ Err e → (e ≡ errors.NoMemory → ⊥)
     → None ≡ bytes_from least most word
 refused_is_none least most word (Ok bytes) e few h is other = absurd cc
 refused_is_none least most word (Err (errors.Bad at)) e few h is other = sym (from_none least most word few (λ bytes s low high. h.none (s.0, s.1, s.2)))
@@ -143,14 +143,14 @@ refused_is_none least most word (Err errors.TooLong) e few h is other =
 refused_is_none least most word (Err errors.NoMemory) e few h is other = absurd (other (let same : errors.NoMemory ≡ e = cc in sym same))
 
 -- what is read is found, unless it is too little
-pub read_is_found : (least most : ℕ) (word bytes : List ℕ) (r : Result (List ℕ) RunsError) → MatchResult r (λ bytes. Spells word bytes × (length bytes ≤ most)) (IsFault word most) → r ≡ Ok bytes → least ≤ length bytes
+pub read_is_found : (least most : ℕ) (word bytes : List ℕ) (r : Result (List ℕ) RunsError) → MatchResult r (λ bytes. Spells word bytes × (length bytes ≤ most)) (IsRunsFault word most) → r ≡ Ok bytes → least ≤ length bytes
     → Some bytes ≡ bytes_from least most word
 read_is_found least most word bytes (Ok found) h is low =
     let same : found ≡ bytes = cc in
     sym (from_again least most word bytes (subst (Spells word) same h.0) low (subst (λ (xs : List ℕ). length xs ≤ most) same h.1))
 read_is_found least most word bytes (Err e) h is low = absurd cc
 
-pub too_few_is_none : (least most : ℕ) (word bytes : List ℕ) (r : Result (List ℕ) RunsError) → most < 2 ^ 32 → MatchResult r (λ bytes. Spells word bytes × (length bytes ≤ most)) (IsFault word most) → r ≡ Ok bytes → length bytes < least
+pub too_few_is_none : (least most : ℕ) (word bytes : List ℕ) (r : Result (List ℕ) RunsError) → most < 2 ^ 32 → MatchResult r (λ bytes. Spells word bytes × (length bytes ≤ most)) (IsRunsFault word most) → r ≡ Ok bytes → length bytes < least
     → None ≡ bytes_from least most word
 too_few_is_none least most word bytes (Ok found) few h is less =
     let same : found ≡ bytes = cc in

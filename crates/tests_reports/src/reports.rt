@@ -1,6 +1,6 @@
 //! Whole reports, read and written again.
 
-use flr_base::{Ids, MemSink};
+use flr_base::{Ids, MemSink, NoMemory, put_decimal};
 use layout_text::TextError;
 use report_text::write_report;
 use std::alloc::Global;
@@ -82,6 +82,26 @@ const FIRST: [&[u8]; 9] = [
     b"schedule 1*11",
 ];
 
+/// The report of so many calls.
+fn long(alloc: Global, calls: u64) -> Result<Vec<u8>, NoMemory> {
+    let mut text = Vec::from_slice(alloc, b"flr-report 1\n")?;
+    for call in 1..=calls {
+        text.extend_from_slice(b"call 1.")?;
+        put_decimal(&mut text, call)?;
+        text.extend_from_slice(b" from ")?;
+        put_decimal(&mut text, call)?;
+        text.extend_from_slice(b" at ")?;
+        put_decimal(&mut text, call)?;
+        text.extend_from_slice(b" to ")?;
+        put_decimal(&mut text, call)?;
+        text.extend_from_slice(b" evict 1 = evicted 1\n")?;
+    }
+    text.extend_from_slice(b"schedule 1*")?;
+    put_decimal(&mut text, calls)?;
+    text.push(b'\n')?;
+    Ok(text)
+}
+
 /// Whether the report is read, also from its own text, and written as it was.
 fn is_kept(alloc: Global, text: &[u8]) -> Result<bool, TextError> {
     let report = read_report(alloc, text)?;
@@ -95,7 +115,9 @@ fn is_kept(alloc: Global, text: &[u8]) -> Result<bool, TextError> {
 fn reports_are_read_and_written(rt: HostRuntime) -> Result<(), Fail> {
     let empty = is_kept(rt.alloc(), EMPTY)?;
     let every = is_kept(rt.alloc(), EVERY)?;
-    assert!(rt; empty && every);
+    let long = long(rt.alloc(), 5000)?;
+    let many = is_kept(rt.alloc(), &long)?;
+    assert!(rt; empty && every && many);
     Ok(())
 }
 

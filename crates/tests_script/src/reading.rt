@@ -46,10 +46,16 @@ fn inputs(rt: HostRuntime) -> Result<(), Fail> {
     for _ in 0..1048577 {
         long.push(b'\n')?;
     }
-    let rows: [(bool, &[u8], Result<Shape, ScriptError>); 23] = [
+    let mut many = Vec::from_slice(alloc, b"flr-script 1\ntargets 1\nclient 1\nschedule")?;
+    for _ in 0..5000 {
+        many.extend_from_slice(b" 1 2*3")?;
+    }
+    many.push(b'\n')?;
+    let rows: [(bool, &[u8], Result<Shape, ScriptError>); 24] = [
         (false, b"", bad(1, Cause::Missing)),
         (false, long.as_slice(), Err(ScriptError::TooLong)),
         (true, long.as_slice(), Err(ScriptError::TooLong)),
+        (true, many.as_slice(), Ok((1, 16, 0, 1, 10000))),
         (true, b"flr-script 1\n", Err(ScriptError::NoSchedule)),
         (true, b"schedule 1*0\n", bad(1, Cause::Missing)),
         (

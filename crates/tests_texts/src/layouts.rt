@@ -1,3 +1,4 @@
+use flr_base::{NoMemory, put_decimal};
 use layout_text::{TextError, has_text, next_layout, print_layout, read_layout, through_text};
 use std::alloc::Global;
 use std::test::Fail;
@@ -75,6 +76,29 @@ component 65537 mirror 1 flags init extent 0 EOF size 1048576 count 1 objects 0.
     ),
 ];
 
+/// The layout of a mirror that is cut into so many components.
+fn long(alloc: Global, components: u64) -> Result<Vec<u8>, NoMemory> {
+    let mut text = Vec::from_slice(alloc, b"layout generation 1 state 0 next 2 ")?;
+    put_decimal(&mut text, components.saturating_add(1))?;
+    text.extend_from_slice(b" components ")?;
+    put_decimal(&mut text, components)?;
+    text.push(b'\n')?;
+    for number in 1..=components {
+        text.extend_from_slice(b"component ")?;
+        put_decimal(&mut text, number.saturating_add(65536))?;
+        text.extend_from_slice(b" mirror 1 flags 0 extent ")?;
+        put_decimal(&mut text, number.saturating_sub(1).saturating_mul(65536))?;
+        text.push(b' ')?;
+        if number == components {
+            text.extend_from_slice(b"EOF")?;
+        } else {
+            put_decimal(&mut text, number.saturating_mul(65536))?;
+        }
+        text.extend_from_slice(b" size 65536 count 1 objects -\n")?;
+    }
+    Ok(text)
+}
+
 /// Whether the layout is read, also where this stands behind it, and printed again.
 fn is_read(alloc: Global, text: &[u8], behind: &[u8]) -> Result<bool, TextError> {
     let layout = read_layout(alloc, text)?;
@@ -94,6 +118,8 @@ fn layouts_are_read_and_printed(rt: HostRuntime) -> Result<(), Fail> {
     for (text, behind) in LAYOUTS {
         right = right && is_read(rt.alloc(), text, behind)?;
     }
+    let long = long(rt.alloc(), 1000)?;
+    right = right && is_read(rt.alloc(), &long, b"")?;
     for (text, line) in REFUSED {
         right = right && read_layout(rt.alloc(), text).err() == Some(TextError::Bad { line });
     }

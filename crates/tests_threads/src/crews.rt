@@ -3,6 +3,7 @@ use std::alloc::{AllocError, Global};
 use std::hint;
 use std::sync::atomic::{AtomicBool, Ordering};
 use std::test::Fail;
+use turn_cell::{StepAnswer, Stepped};
 use turn_crew::{FreeGate, Gate, run_crew};
 
 /// How many steps a client of `TWO` makes.
@@ -87,5 +88,45 @@ fn sixteen_clients_make_all_their_steps(rt: HostRuntime) -> Result<(), Fail> {
         panic!(rt; "no memory")
     };
     assert!(rt; (world.entries().len(), world.unfinished()) == (161, None));
+    Ok(())
+}
+
+/// A value of which client 1 wants memory that there isn't, once client 2 was told to wait for it.
+#[derive(Drop)]
+struct Starved {
+    waits: bool,
+}
+
+impl Stepped for Starved {
+    ghost use Rattle.std.specs.Prelude.{[]};
+
+    type Origin = ();
+
+    ghost schedule = { λ w. [] };
+
+    ghost origin = { λ w. tt };
+
+    ghost allowed = { λ o seen client answer. Unit {0} };
+
+    fn step(&mut self, client: u8) -> StepAnswer {
+        match client {
+            1 if self.waits => StepAnswer::NoMemory,
+            1 => StepAnswer::Blocked { holder: 2 },
+            _ => {
+                self.waits = true;
+                StepAnswer::Blocked { holder: 1 }
+            }
+        }
+    }
+
+    fn places(&self) -> u32 {
+        0
+    }
+}
+
+#[test]
+fn a_crew_without_memory_ends(rt: HostRuntime) -> Result<(), Fail> {
+    let ended = run_crew(&rt, rt.alloc(), Starved { waits: false }, 2, &FreeGate);
+    assert!(rt; ended.is_err());
     Ok(())
 }

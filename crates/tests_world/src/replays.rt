@@ -68,21 +68,28 @@ fn fronts_of_an_input_are_refused(rt: HostRuntime) -> Result<(), Fail> {
 #[test]
 fn words_are_looked_at(rt: HostRuntime) -> Result<(), Fail> {
     let alloc = rt.alloc();
-    let usage: &[u8] = b"flr: words: run | replay | soak SEED CLIENTS CALLS | migrate\n";
+    let usage: &[u8] =
+        b"flr: words: run | replay | soak SEED CLIENTS CALLS | migrate | random SEED\n";
     let first: &[u8] =
         b"soak seed 1 clients 1 calls 1 steps 2 reads 0 writes 0 resyncs 1 verifies 0 bytes 0 unfinished 0\n";
     let second: &[u8] =
         b"soak seed 1 clients 1 calls 2 steps 3 reads 0 writes 0 resyncs 2 verifies 0 bytes 0 unfinished 0\n";
     let third: &[u8] =
         b"soak seed 1 clients 1 calls 3 steps 8 reads 0 writes 1 resyncs 2 verifies 0 bytes 0 unfinished 0\n";
-    let rows: [(&[&str], u8, &[u8]); 11] = [
+    let long: &[u8] =
+        b"soak seed 7 clients 16 calls 255 steps 19131 reads 1009 writes 2096 resyncs 4 verifies 512 bytes 2028142 unfinished 0\n";
+    let rows: [(&[&str], u8, &[u8]); 15] = [
         (&["replay"], 0, FIRST_REPORT),
         (&["run"], 3, b"flr: script: line 7: misplaced\n"),
         (&["soak", "1", "1", "1"], 0, first),
         (&["soak", "1", "1", "2"], 0, second),
         (&["soak", "1", "1", "3"], 0, third),
+        (&["soak", "7", "16", "255"], 0, long),
         (&["migrate"], 3, b"flr: script: line 7: misplaced\n"),
         (&["soak", "1", "0", "5"], 2, usage),
+        (&["random", "7"], 3, b"flr: script: line 7: misplaced\n"),
+        (&["random"], 2, usage),
+        (&["random", "2147483648"], 2, usage),
         (&["run", "x"], 2, usage),
         (&["--help"], 2, usage),
         (&["replay", "x"], 2, usage),
@@ -103,6 +110,28 @@ fn words_are_looked_at(rt: HostRuntime) -> Result<(), Fail> {
             &FreeGate,
         );
         assert!(rt; ended == status && out.into_bytes().as_slice() == text);
+    }
+    Ok(())
+}
+
+#[test]
+fn one_client_has_one_run(rt: HostRuntime) -> Result<(), Fail> {
+    let alloc = rt.alloc();
+    let script = FIRST.strip_suffix(b"schedule 1*11\n").unwrap_or(FIRST);
+    for seed in ["0", "7", "2147483647"] {
+        let mut words = Vec::new(alloc);
+        words.push("random".to_string(alloc)?)?;
+        words.push(seed.to_string(alloc)?)?;
+        let mut out = MemSink::new(alloc, Ids::new(alloc));
+        let ended = flr_main(
+            &rt,
+            alloc,
+            &words,
+            &mut source(alloc, script)?,
+            &mut out,
+            &FreeGate,
+        );
+        assert!(rt; ended == 0 && out.into_bytes().as_slice() == FIRST_REPORT);
     }
     Ok(())
 }

@@ -8,7 +8,7 @@ pub(crate) struct Row {
     pub parts: &'static [&'static [u8]],
 }
 
-pub(crate) const ROWS: [Row; 32] = [
+pub(crate) const ROWS: [Row; 34] = [
     // the second mirror of a file that was written is stale
     Row {
         input: b"flr-script 1
@@ -155,6 +155,32 @@ schedule 1*2 2*1
 ",
         status: 3,
         parts: &[b"flr: schedule: place 3: client 2 blocked by 1\n"],
+    },
+    // a writer waits for who has the bytes
+    Row {
+        input: b"flr-script 1
+targets 1
+client 1
+lfs setstripe /a
+write /a 0 61*1
+write /a 0 62*2
+client 2
+write /a 1 63*1
+schedule 1*8 2*2
+",
+        status: 3,
+        parts: &[b"flr: schedule: place 10: client 2 blocked by 1\n"],
+    },
+    // a verify of a file that isn't there
+    Row {
+        input: b"flr-script 1
+targets 1
+client 1
+lfs mirror verify /a
+schedule 1*1
+",
+        status: 0,
+        parts: &[b"call 1.1 from 1 at 1 to 1 lfs mirror verify /a = nofile /a\n"],
     },
     // a write breaks a resync
     Row {

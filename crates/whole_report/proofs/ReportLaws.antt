@@ -20,7 +20,7 @@ use Rattle.call_read.proofs.Stops.{Leaves, stop_here}
 use Rattle.report_read.specs.Schedules.{schedule_line}
 use Rattle.whole_report.specs.Coming.{IsOrdered, greatest, call_lines, file_lines, ScheduleComes, FilesCome, CallsCome}
 use Rattle.whole_report.specs.Fronts.{ends, further, CallsStand, FileFault, FilesStand, IsLastLine, IsBody}
-use Rattle.whole_report.specs.Reports.{IsWithin, IsReport, Spells, AreReportLines, FaultsAt, IsFault}
+use Rattle.whole_report.specs.Reports.{IsWithin, IsReport, Spells, AreReportLines, FaultsAt, IsReportFault}
 use Rattle.whole_report.proofs.Further.{fault_further, line_further}
 use Rattle.whole_report.proofs.CallTexts.{first_line, head_whole, report_parts, report_own, first_lacks}
 use Rattle.whole_report.proofs.Comings.{calls_begin}
@@ -102,15 +102,15 @@ no_lines (r, is, e) =
 report_begins : Begins AreReportLines []
 report_begins = let c = calls_begin 0 0 (omega arith) in (Some first_line ∷ c.0, (report_leaves c.0).1 c.1)
 
-stop_first : (text : List ℕ) → ((tail : Lines) → lines_of text ≡ Some first_line ∷ tail → ⊥) → IsFault text (Bad 1)
+stop_first : (text : List ℕ) → ((tail : Lines) → lines_of text ≡ Some first_line ∷ tail → ⊥) → IsReportFault text (Bad 1)
 stop_first text none =
     let stop = stop_here AreReportLines (lines_of text) report_begins no_lines (λ y tail more first r. none tail (first ∙ ap (λ (l : Option (List ℕ)). l ∷ tail) (report_first y more r))) in
     (0, stop.fault, omega arith)
 
-pub no_line : (text : List ℕ) → lines_of text ≡ unended text → IsFault text (Bad 1)
+pub no_line : (text : List ℕ) → lines_of text ≡ unended text → IsReportFault text (Bad 1)
 no_line text none = stop_first text (λ tail e. not_unended text first_line tail (sym none ∙ e))
 
-pub no_head : (text line rest : List ℕ) → lines_of text ≡ Some line ∷ lines_of rest → (line ≡ first_line → ⊥) → IsFault text (Bad 1)
+pub no_head : (text line rest : List ℕ) → lines_of text ≡ Some line ∷ lines_of rest → (line ≡ first_line → ⊥) → IsReportFault text (Bad 1)
 no_head text line rest first other = stop_first text (λ tail e. let lines : Some line ∷ lines_of rest ≡ Some first_line ∷ tail = sym first ∙ e in other cc)
 
 -- the line is another one
@@ -126,7 +126,7 @@ is_true false e = absurd cc
 pub this_line : (line text : List ℕ) (b : Bool) → b ≡ not (bytes_eq line text) → b ≡ false → text ≡ first_line → line ≡ first_line
 this_line line text b test same own = same_word line text (is_true (bytes_eq line text) (sym test ∙ same)) ∙ own
 
-pub body_wrong : (text line rest : List ℕ) (error told : TextError) → text ≡ line ++ 10 ∷ rest → line ≡ first_line → FaultsAt (CallsCome 0 0) rest error → told ≡ further (ends (take (length text - length rest) text)) error → IsFault text told
+pub body_wrong : (text line rest : List ℕ) (error told : TextError) → text ≡ line ++ 10 ∷ rest → line ≡ first_line → FaultsAt (CallsCome 0 0) rest error → told ≡ further (ends (take (length text - length rest) text)) error → IsReportFault text told
 body_wrong text line rest error told cut is h e = subst (FaultsAt AreReportLines text) (sym e) (by error h)
   where
     by : (x : TextError) → FaultsAt (CallsCome 0 0) rest x → FaultsAt AreReportLines text (further (ends (take (length text - length rest) text)) x)
@@ -147,6 +147,6 @@ all_writable (c ∷ cs) all = let r = all.0.0 in ((spellable 32 64 16 c.command 
 pub writable : (r : Report) → IsReport r → AllByRecursion IsWritable r.calls
 writable r is = all_writable r.calls is.calls
 
-pub writable_law : (text : List ℕ) (r : Result Report TextError) → MatchResult r (Spells text) (IsFault text) → IfOk r (λ report. AllByRecursion IsWritable report.calls)
+pub writable_law : (text : List ℕ) (r : Result Report TextError) → MatchResult r (Spells text) (IsReportFault text) → IfOk r (λ report. AllByRecursion IsWritable report.calls)
 writable_law text (Ok report) h = writable report h.0
 writable_law text (Err error) h = tt

@@ -37,7 +37,7 @@ use Rattle.report_read.specs.Schedules.{IsSchedule, schedule_line}
 use Rattle.report_read.proofs.FileLaws.{one_file}
 use Rattle.report_read.proofs.ScheduleLaws.{one_schedule}
 use Rattle.whole_report.specs.Coming.{IsOrdered}
-use Rattle.whole_report.specs.Reports.{IsReport, Spells, IsFault}
+use Rattle.whole_report.specs.Reports.{IsReport, Spells, IsReportFault}
 use Rattle.whole_report.proofs.CallTexts.{call_texts, call_first, file_first, schedule_own, report_parts}
 use Rattle.whole_report.proofs.Comings.{whole_free, diffs_free}
 use Rattle.whole_report.proofs.Counts.{first_byte}
@@ -243,7 +243,7 @@ one_report r s is too e =
     ap (λ (x : List Call). made x r.files r.schedule) calls.0 ∙ ap (λ (x : List FileLine). made s.calls x r.schedule) files.0 ∙ ap (λ (x : List ℕ). made s.calls s.files x) files.1
 
 -- what is spelled is read
-pub again_law : (text : List ℕ) (r : Result Report TextError) → MatchResult r (Spells text) (IsFault text) → (report : Report) → Spells text report → MatchResult r (λ found. found ≡ report) IsNoMemory
+pub again_law : (text : List ℕ) (r : Result Report TextError) → MatchResult r (Spells text) (IsReportFault text) → (report : Report) → Spells text report → MatchResult r (λ found. found ≡ report) IsNoMemory
 again_law text (Ok found) h report s = one_report found report h.0 s.0 (sym h.1 ∙ s.1)
 again_law text (Err (Bad line)) h report s = h.1.none (report, s.0, ap lines_of s.1)
 again_law text (Err NoMemory) h report s = tt

@@ -39,5 +39,5 @@ FaultsAt L text (Bad line) = (at : ℕ) × IsFirstFault L (lines_of text) at × 
 FaultsAt L text NoMemory = Unit {0}
 
 -- the error tells the first line at which no report's text goes on
-abbrev pub IsFault : List ℕ → TextError → Type 0
-IsFault text error = FaultsAt AreReportLines text error
+abbrev pub IsReportFault : List ℕ → TextError → Type 0
+IsReportFault text error = FaultsAt AreReportLines text error

@@ -8,7 +8,7 @@ ghost use Rattle.report_text.specs.Texts.{IsWritable};
 ghost use Rattle.report_text.specs.declared.report.Report.{Report};
 ghost use Rattle.whole_report.specs.Coming.{CallsCome};
 ghost use Rattle.whole_report.specs.Fronts.{IsBody};
-ghost use Rattle.whole_report.specs.Reports.{FaultsAt, IsFault, Spells};
+ghost use Rattle.whole_report.specs.Reports.{FaultsAt, IsReportFault, Spells};
 
 use crate::calls::read_calls;
 use crate::files::read_files;
@@ -41,7 +41,7 @@ fn body(alloc: Global, text: &[u8]) -> Result<Report, TextError>
 }
 
 fn read(alloc: Global, text: &[u8]) -> Result<Report, TextError>
-    ensures { MatchResult result (Spells text.now) (IsFault text.now) }
+    ensures { MatchResult result (Spells text.now) (IsReportFault text.now) }
 {
     let Some((line, rest)) = next_line(text) else {
         return Err(TextError::Bad { line: 1 });
@@ -66,7 +66,7 @@ pub fn read_report(alloc: Global, text: &[u8]) -> Result<Report, TextError>
     // It can be written again.
     ensures writable { IfOk result (λ report. AllByRecursion IsWritable report.calls) }
     // A refusal names the first line at which no report's text goes on.
-    ensures bad { IfErr result (IsFault text.now) }
+    ensures bad { IfErr result (IsReportFault text.now) }
     // What is spelled so is read, unless memory runs out.
     ensures again { (report : Report) → Spells text.now report → MatchResult result (λ found. found ≡ report) IsNoMemory }
 {

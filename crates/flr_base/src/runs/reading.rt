@@ -1,6 +1,6 @@
 ghost use Rattle.std.specs.Prelude.{◌≡◌, ◌<◌, ◌≤◌, ◌↔◌, ◌++◌, IsTrue, List, ℕ, length, replicate, IfOk, OnOk, MatchResult};
 ghost use Rattle.flr_base.specs.Runs.{AreRuns, Spells, runs_text, bytes_of};
-ghost use Rattle.flr_base.specs.RunsAnswers.{IsBad, IsFault, IsNoMemory};
+ghost use Rattle.flr_base.specs.RunsAnswers.{IsBad, IsRunsFault, IsNoMemory};
 
 use crate::list::Octets;
 use crate::memory::NoMemory;
@@ -55,9 +55,7 @@ fn is_longer(runs: &[Run], most: u64) -> bool
 fn push_run(bytes: &mut Vec<u8>, run: Run) -> Result<(), NoMemory>
     ensures { OnOk result (bytes.new.items ≡ bytes.old.items ++ replicate run.count run.byte) }
 {
-    for _ in 0..run.count {
-        bytes.push(run.byte)?;
-    }
+    bytes.resize(bytes.len() + run.count as usize, run.byte)?;
     Ok(())
 }
 
@@ -73,7 +71,7 @@ fn expand(alloc: Global, runs: &[Run]) -> Result<Octets, NoMemory>
 }
 
 fn read(alloc: Global, text: &[u8], most: u64) -> Result<Octets, RunsError>
-    ensures { MatchResult result (λ bytes. Spells text.now bytes × (length bytes ≤ most)) (IsFault text.now most) }
+    ensures { MatchResult result (λ bytes. Spells text.now bytes × (length bytes ≤ most)) (IsRunsFault text.now most) }
 {
     let runs = scan(alloc, text)?;
     if is_longer(&runs, most) {
@@ -90,7 +88,7 @@ fn read(alloc: Global, text: &[u8], most: u64) -> Result<Octets, RunsError>
 /// than `most`.
 pub fn read_runs(alloc: Global, text: &[u8], most: u64) -> Result<Octets, RunsError>
     // What is read is spelled so; a refusal has its cause.
-    ensures read { MatchResult result (λ bytes. Spells text.now bytes × (length bytes ≤ most)) (IsFault text.now most) }
+    ensures read { MatchResult result (λ bytes. Spells text.now bytes × (length bytes ≤ most)) (IsRunsFault text.now most) }
     // What is spelled so is read, unless memory runs out.
     ensures again { (bytes : List ℕ) → Spells text.now bytes → length bytes ≤ most → MatchResult result (λ found. found ≡ bytes) IsNoMemory }
 {

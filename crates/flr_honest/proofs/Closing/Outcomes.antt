@@ -14,7 +14,8 @@ use Rattle.extent_lock.specs.Extents.{blocker}
 use Rattle.meta_server.specs.declared.answers.Opened.{Opened}
 use Rattle.meta_server.specs.Closing.{is_there, last_eviction}
 use Rattle.meta_server.specs.Files.{File, MetaView, file_named}
-use Rattle.meta_server.specs.Opening.{change_opens_file, cut_opens, intends, intends_to, limits, most_bytes, readies, write_opens}
+use Rattle.flr_base.specs.Limits.{most_bytes}
+use Rattle.meta_server.specs.Opening.{change_opens_file, cut_opens, intends, intends_to, limits, readies, write_opens}
 use Rattle.meta_server.specs.Outcomes.{Gives, Refuses, Waits}
 use Rattle.meta_server.specs.Outcomes as meta
 use Rattle.call_steps.specs.Pieces.{piece_at}

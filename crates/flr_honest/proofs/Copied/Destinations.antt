@@ -12,9 +12,9 @@ use Rattle.resync_copy.specs.Views.{CopyingView}
 use Rattle.copy_laws.proofs.Less.{IsFrame, at_left, frame_at, length_at}
 use Rattle.copy_laws.proofs.Places.{extent_of, with_own}
 use Rattle.flr_sole.specs.Copies.{unleft}
-use Rattle.flr_bytes.specs.Calls.{IsDestination}
+use Rattle.flr_bytes.specs.Calls.{IsKeptDestination}
 
-module _ (x : CopyingView) (valid : IsValid x.side.layout) (same : map unleft x.destinations ≡ destinations_in x.side.layout.components x.ids) (place : ℕ) (d : Component) (is : IsDestination x place d) where
+module _ (x : CopyingView) (valid : IsValid x.side.layout) (same : map unleft x.destinations ≡ destinations_in x.side.layout.components x.ids) (place : ℕ) (d : Component) (is : IsKeptDestination x place d) where
   frame : IsFrame x.side.layout.components x.ids place (destination_at x.destinations place)
   frame = frame_at x.side.layout.components x.ids x.destinations same place is.within
 
@@ -41,7 +41,7 @@ module _ (x : CopyingView) (valid : IsValid x.side.layout) (same : map unleft x.
 
 module _ (x : CopyingView) (place : ℕ) (call : FailedCall) where
   -- who isn't left then is at another place, and wasn't left before
-  pub kept_before : (p : ℕ) (d : Component) → IsDestination (leaves_at x place call) p d → (p ≡ place → ⊥) × IsDestination x p d
+  pub kept_before : (p : ℕ) (d : Component) → IsKeptDestination (leaves_at x place call) p d → (p ≡ place → ⊥) × IsKeptDestination x p d
   kept_before p d is = (apart, record { within = within; kept = ap is_kept (sym stays) ∙ is.kept; listed = is.listed; same = is.same ∙ ap (λ (e : Destination). e.component) stays })
     where
       within : p < length x.destinations

@@ -25,19 +25,19 @@ use Rattle.copy_laws.proofs.Less.{less_at}
 use Rattle.flr_claims.specs.Honesty.{IsOf, content}
 use Rattle.flr_sole.specs.Copies.{IsBegun}
 use Rattle.flr_sole.proofs.Readying.{begun_less}
-use Rattle.flr_bytes.specs.Calls.{AreCopied, IsCopied, IsCopiedTo, IsDestination, StageSays}
+use Rattle.flr_bytes.specs.Calls.{AreCopied, HoldsFile, IsCopiedTo, IsKeptDestination, StageSays}
 use Rattle.flr_honest.proofs.Copied.Chunks.{IsIn, covers_chunk, is_in}
 use Rattle.flr_honest.proofs.Copied.Destinations.{drop_set, dropped_first, dropped_none, extent_is, kept_before}
 
 -- where a fresh component without objects has a byte of a destination that isn't left, the file has a zero
 abbrev pub HolesAreZero : (ℕ → ℕ) → CopyingView → Type 0
-HolesAreZero byte x = (c : Component) → In c x.side.layout.components → c.flags.stale ≡ false → c.flags.init ≡ false → (place : ℕ) (d : Component) → IsDestination x place d → (y : ℕ) → IsOf c y → IsOf d y → byte y ≡ 0
+HolesAreZero byte x = (c : Component) → In c x.side.layout.components → c.flags.stale ≡ false → c.flags.init ≡ false → (place : ℕ) (d : Component) → IsKeptDestination x place d → (y : ℕ) → IsOf c y → IsOf d y → byte y ≡ 0
 
 -- past the size the file has no bytes in a destination that isn't left; each of those before this place is copied, and the others are empty
 pub record AreCopiedBefore (s : Servers) (byte : ℕ → ℕ) (size place : ℕ) (x : CopyingView) : Type 0 where
-  pub past : (p : ℕ) (d : Component) (y : ℕ) → IsDestination x p d → IsOf d y → size ≤ y → byte y ≡ 0
-  pub before : (p : ℕ) (d : Component) → IsDestination x p d → p < place → IsCopied s byte d
-  pub behind : (p : ℕ) (d : Component) → IsDestination x p d → place ≤ p → IsCopiedTo s byte d 0
+  pub past : (p : ℕ) (d : Component) (y : ℕ) → IsKeptDestination x p d → IsOf d y → size ≤ y → byte y ≡ 0
+  pub before : (p : ℕ) (d : Component) → IsKeptDestination x p d → p < place → HoldsFile s byte d
+  pub behind : (p : ℕ) (d : Component) → IsKeptDestination x p d → place ≤ p → IsCopiedTo s byte d 0
 
 -- who is chosen is one of the components, fresh, and has the byte
 pub chosen_has : (cs : List Component) (failed : List ℕ) (byte : ℕ) (c : Component) → chosen cs failed byte ≡ Some c → In c cs × (has_byte byte c ≡ true) × (c.flags.stale ≡ false)
@@ -132,13 +132,13 @@ module _ (s : Servers) (byte : ℕ → ℕ → ℕ) (size : ℕ) where
   )
 
   -- who isn't there to be copied is passed over
-  passed_knows : (place : ℕ) (x : CopyingView) → ((d : Component) → IsDestination x place d → ⊥) → KnowsTo place x → KnowsTo (place + 1) x
+  passed_knows : (place : ℕ) (x : CopyingView) → ((d : Component) → IsKeptDestination x place d → ⊥) → KnowsTo place x → KnowsTo (place + 1) x
   passed_knows place x none b = (
     b.0,
     λ stands. (let c = (b.1 stands).0 in (
       record {
         past = c.past;
-        before = λ p d is low. elim (cases_eq p place) [ inl same ↦ absurd (none d (subst (λ k. IsDestination x k d) same is)) | inr apart ↦ c.before p d is (omega (arith, low, apart)) ];
+        before = λ p d is low. elim (cases_eq p place) [ inl same ↦ absurd (none d (subst (λ k. IsKeptDestination x k d) same is)) | inr apart ↦ c.before p d is (omega (arith, low, apart)) ];
         behind = λ p d is high. c.behind p d is (omega (arith, high));
       },
       (b.1 stands).1,
@@ -170,7 +170,7 @@ module _ (s : Servers) (byte : ℕ → ℕ → ℕ) (size : ℕ) where
       abbrev end : ℕ
       end = end_of size (destination_at x.destinations place)
 
-      module _ (stands : state_of s.meta.leases x.side.key ≡ Held) (d : Component) (is : IsDestination x place d) where
+      module _ (stands : state_of s.meta.leases x.side.key ≡ Held) (d : Component) (is : IsKeptDestination x place d) where
         c : AreCopied s byte (chunk_at x number) × HolesAreZero (byte x.side.key.file) x
         c = b.1 stands
 
@@ -200,7 +200,7 @@ module _ (s : Servers) (byte : ℕ → ℕ → ℕ) (size : ℕ) where
                     (c.0.here d is y own).1 past ∙ sym (hole_zero (chunk_of y) y (holes (chunk_of y) (omega (arith, last, past)) (omega (arith, first, low))) at own)
 
         -- and all of them, if all are up to the end
-        whole : ((k : ℕ) → number ≤ k → k < chunks_below end → hole k ≡ true) → IsCopied s (byte x.side.key.file) d
+        whole : ((k : ℕ) → number ≤ k → k < chunks_below end → hole k ≡ true) → HoldsFile s (byte x.side.key.file) d
         whole holes y own = by (cases_lt y (chunk_start number))
           where
             extent : (destination_at x.destinations place).extent.end ≡ d.extent.end
@@ -231,7 +231,7 @@ module _ (s : Servers) (byte : ℕ → ℕ → ℕ) (size : ℕ) where
         λ stands. (let c = b.1 stands in (
           record {
             past = c.0.past;
-            before = λ p d is low. elim (cases_eq p place) [ inl same ↦ whole stands d (subst (λ k. IsDestination x k d) same is) holes | inr apart ↦ c.0.before p d is (omega (arith, low, apart)) ];
+            before = λ p d is low. elim (cases_eq p place) [ inl same ↦ whole stands d (subst (λ k. IsKeptDestination x k d) same is) holes | inr apart ↦ c.0.before p d is (omega (arith, low, apart)) ];
             behind = λ p d is high. c.0.behind p d is (omega (arith, high));
           },
           c.1,

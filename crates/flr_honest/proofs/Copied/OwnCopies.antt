@@ -51,7 +51,7 @@ use Rattle.flr_sole.specs.Copies as sole
 use Rattle.flr_sole.specs.Sentences.{StandsAlone}
 use Rattle.flr_sole.proofs.Others.{held_there}
 use Rattle.flr_sole.proofs.Readying.{begun_less}
-use Rattle.flr_bytes.specs.Calls.{AreCopied, AreEmptied, CopiedSoFar, CopySays, IsCopied, IsCopiedTo, IsDestination, IsInHand, StageSays}
+use Rattle.flr_bytes.specs.Calls.{AreCopied, AreEmptied, CopiedSoFar, CopySays, HoldsFile, IsCopiedTo, IsKeptDestination, IsInHand, StageSays}
 use Rattle.flr_bytes.specs.Runs.{Ground, Honest}
 use Rattle.flr_bytes.specs.Sentences.{byte_in}
 use Rattle.flr_bytes.specs.Writing.{HoldsStill}
@@ -121,7 +121,7 @@ module _ (s : State) (tr : Trace) (g : Ground s tr) (honest : Honest s tr) (k : 
   -- ---- settle
 
   -- each destination that isn't left is empty
-  empty : (x : CopyingView) → IsBegun m x → AreEmptied s.shared x (length (resets_of x)) → state_of m.leases x.side.key ≡ Held → (p : ℕ) (d : Component) → IsDestination x p d → (y : ℕ) → held (content s.shared) d y ≡ 0
+  empty : (x : CopyingView) → IsBegun m x → AreEmptied s.shared x (length (resets_of x)) → state_of m.leases x.side.key ≡ Held → (p : ℕ) (d : Component) → IsKeptDestination x p d → (y : ℕ) → held (content s.shared) d y ≡ 0
   empty x b r stands p d is y = by (cases_Bool d.flags.init) (slice_get d.objects (place_of y d.stripe).index) refl
     where
       at_object : (o : ObjectId) → slice_get d.objects (place_of y d.stripe).index ≡ Some o → content s.shared o ≡ []
@@ -185,13 +185,13 @@ module _ (s : State) (tr : Trace) (g : Ground s tr) (honest : Honest s tr) (k : 
         layout : w.0.layout ≡ h.copying.side.layout
         layout = r.0.0.1 stands w.0 w.1
 
-        copied : (p : ℕ) (d : Component) → IsDestination h.copying p d → (p ≡ h.place → ⊥) → IsCopied s.shared (byte h.copying.side.key.file) d → IsCopied (piece_put s.shared h (piece_to h) bytes) (byte h.copying.side.key.file) d
+        copied : (p : ℕ) (d : Component) → IsKeptDestination h.copying p d → (p ≡ h.place → ⊥) → HoldsFile s.shared (byte h.copying.side.key.file) d → HoldsFile (piece_put s.shared h (piece_to h) bytes) (byte h.copying.side.key.file) d
         copied p d is other c = copied_still m g.holds.servers.once h r.0 fit.copying w.0 w.1 layout s.shared (piece_put s.shared h (piece_to h) bytes) others (byte h.copying.side.key.file) p d is other c
 
-        copied_to : (end p : ℕ) (d : Component) → IsDestination h.copying p d → (p ≡ h.place → ⊥) → IsCopiedTo s.shared (byte h.copying.side.key.file) d end → IsCopiedTo (piece_put s.shared h (piece_to h) bytes) (byte h.copying.side.key.file) d end
+        copied_to : (end p : ℕ) (d : Component) → IsKeptDestination h.copying p d → (p ≡ h.place → ⊥) → IsCopiedTo s.shared (byte h.copying.side.key.file) d end → IsCopiedTo (piece_put s.shared h (piece_to h) bytes) (byte h.copying.side.key.file) d end
         copied_to end p d is other c = copied_to_still m g.holds.servers.once h r.0 fit.copying w.0 w.1 layout s.shared (piece_put s.shared h (piece_to h) bytes) others (byte h.copying.side.key.file) end p d is other c
 
-        here : write_answer (target_of s.shared (object_of (piece_to h))) (object_of (piece_to h)).number h.copying.side.layout.generation ≡ answer.Ok → (d : Component) → IsDestination h.copying h.place d → IsCopiedTo (piece_put s.shared h (piece_to h) bytes) (byte h.copying.side.key.file) d (chunk_start (h.number + 1))
+        here : write_answer (target_of s.shared (object_of (piece_to h))) (object_of (piece_to h)).number h.copying.side.layout.generation ≡ answer.Ok → (d : Component) → IsKeptDestination h.copying h.place d → IsCopiedTo (piece_put s.shared h (piece_to h) bytes) (byte h.copying.side.key.file) d (chunk_start (h.number + 1))
         here ok d is =
             let spot = put.at m g.holds.servers.once h r.0 fit.copying w.0 w.1 layout d is in
             let on = there d (object_of (piece_to h)) is.listed (to_contains d.objects (object_of (piece_to h)) (listed_at d.objects (place_of (chunk_start h.number) d.stripe).index (object_of (piece_to h)) spot)) in

@@ -25,7 +25,7 @@ use Rattle.meta_server.specs.declared.answers.Side.{Side}
 use Rattle.meta_server.specs.Closing.{size_of}
 use Rattle.meta_server.specs.Ending.{merge_ends}
 use Rattle.meta_server.specs.Files.{File, MetaView, file_of}
-use Rattle.meta_server.specs.Opening.{most_bytes}
+use Rattle.flr_base.specs.Limits.{most_bytes}
 use Rattle.meta_server.specs.Outcomes.{Breaks, Ending, Ends, Holds}
 use Rattle.meta_server.specs.Sound.{IsSoundFile}
 use Rattle.call_steps.specs.Pieces.{object_of}

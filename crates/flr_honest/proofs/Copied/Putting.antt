@@ -29,7 +29,7 @@ use Rattle.resync_copy.proofs.PartLaws.{with_id_in}
 use Rattle.copy_laws.proofs.Places.{own_id}
 use Rattle.flr_claims.specs.Honesty.{IsOf, content}
 use Rattle.flr_sole.specs.Copies.{IsBegun}
-use Rattle.flr_bytes.specs.Calls.{IsCopied, IsCopiedTo, IsDestination}
+use Rattle.flr_bytes.specs.Calls.{HoldsFile, IsCopiedTo, IsKeptDestination}
 use Rattle.flr_bytes.specs.Sentences.{AreBytes}
 use Rattle.flr_bytes.specs.Writing.{AreWritten}
 use Rattle.flr_bytes.proofs.Held.{held_beside, held_elsewhere, held_over}
@@ -84,7 +84,7 @@ whose d o x = by (slice_get d.objects (place_of x d.stripe).index)
 
 -- the object to which the chunk is put isn't one of another destination
 module _ (m : MetaView) (once : AreObjectsOnce m) (h : Chunk) (b : IsBegun m h.copying) (fit : AreFit h.copying) (f : File) (found : file_of h.copying.side.key.file m.files ≡ Some f) (layout : f.layout ≡ h.copying.side.layout) where
-  pub apart : (p : ℕ) (d : Component) → IsDestination h.copying p d → (p ≡ h.place → ⊥) → (i : ℕ) → slice_get d.objects i ≡ Some (object_of (piece_to h)) → ⊥
+  pub apart : (p : ℕ) (d : Component) → IsKeptDestination h.copying p d → (p ≡ h.place → ⊥) → (i : ℕ) → slice_get d.objects i ≡ Some (object_of (piece_to h)) → ⊥
   apart p d is other i at = by (with_id h.copying.side.layout.components (get_or h.copying.ids h.place 0)) refl
     where
       valid : IsValid h.copying.side.layout
@@ -123,18 +123,18 @@ module _ (m : MetaView) (once : AreObjectsOnce m) (h : Chunk) (b : IsBegun m h.c
 
   -- so other destinations hold what they held
   module _ (s after : Servers) (others : (o : ObjectId) → (o ≡ object_of (piece_to h) → ⊥) → content after o ≡ content s o) where
-    pub held_still : (p : ℕ) (d : Component) → IsDestination h.copying p d → (p ≡ h.place → ⊥) → (y : ℕ) → held (content after) d y ≡ held (content s) d y
+    pub held_still : (p : ℕ) (d : Component) → IsKeptDestination h.copying p d → (p ≡ h.place → ⊥) → (y : ℕ) → held (content after) d y ≡ held (content s) d y
     held_still p d is other y = held_elsewhere s after (object_of (piece_to h)) others d y (λ at. apart p d is other (place_of y d.stripe).index at)
 
-    pub copied_still : (byte : ℕ → ℕ) (p : ℕ) (d : Component) → IsDestination h.copying p d → (p ≡ h.place → ⊥) → IsCopied s byte d → IsCopied after byte d
+    pub copied_still : (byte : ℕ → ℕ) (p : ℕ) (d : Component) → IsKeptDestination h.copying p d → (p ≡ h.place → ⊥) → HoldsFile s byte d → HoldsFile after byte d
     copied_still byte p d is other c y own = held_still p d is other y ∙ c y own
 
-    pub copied_to_still : (byte : ℕ → ℕ) (end p : ℕ) (d : Component) → IsDestination h.copying p d → (p ≡ h.place → ⊥) → IsCopiedTo s byte d end → IsCopiedTo after byte d end
+    pub copied_to_still : (byte : ℕ → ℕ) (end p : ℕ) (d : Component) → IsKeptDestination h.copying p d → (p ≡ h.place → ⊥) → IsCopiedTo s byte d end → IsCopiedTo after byte d end
     copied_to_still byte end p d is other c y own = (λ low. held_still p d is other y ∙ (c y own).0 low, λ high. held_still p d is other y ∙ (c y own).1 high)
 
   -- ---- the destination itself
 
-  module _ (d : Component) (is : IsDestination h.copying h.place d) where
+  module _ (d : Component) (is : IsKeptDestination h.copying h.place d) where
     valid : IsValid h.copying.side.layout
     valid = b.0.2
 
@@ -147,7 +147,7 @@ module _ (m : MetaView) (once : AreObjectsOnce m) (h : Chunk) (b : IsBegun m h.c
     -- it has its objects
     pub init : d.flags.init ≡ true
     init =
-        let w = every_in (fitting.IsDestination h.copying.side.layout.components) h.copying.ids (get_or h.copying.ids h.place 0) fit.made (get_there h.copying.ids h.place 0 (id_there h.copying valid b.1 h.place d is)) in
+        let w = every_in (fitting.HasItsObjects h.copying.side.layout.components) h.copying.ids (get_or h.copying.ids h.place 0) fit.made (get_there h.copying.ids h.place 0 (id_there h.copying valid b.1 h.place d is)) in
         let one : w.0 ≡ d = (let e = w.1 in let k = with_there h.copying valid b.1 h.place d is in cc) in
         ap (λ (c : Component). c.flags.init) (sym one) ∙ w.2
 

@@ -37,7 +37,7 @@ use Rattle.flr_sole.specs.Sentences.{IsAlone, StandsAlone}
 use Rattle.flr_sole.proofs.Excluding.{both_listed, is_listed, over_component}
 use Rattle.flr_sole.proofs.Others.{held_there}
 use Rattle.flr_claims.specs.Runs.{store_of}
-use Rattle.flr_bytes.specs.Calls.{IsDestination}
+use Rattle.flr_bytes.specs.Calls.{IsKeptDestination}
 use Rattle.flr_bytes.specs.Files.{AreSized}
 use Rattle.flr_bytes.specs.Runs.{Ground, Honest}
 use Rattle.flr_bytes.specs.Sentences.{byte_in}
@@ -94,7 +94,7 @@ over_reach (OfTruncate size s) x over =
     (omega (arith, a, b), ltb-true x s.component.extent.end parts.1)
 
 -- a part with a byte of a destination that isn't left overlaps it
-pub over_kept : (m : MetaView) (x : CopyingView) → IsBegun m x → (place : ℕ) (d : Component) → IsDestination x place d → (y : ℕ) → IsOf d y → (p : Part) → is_over y p ≡ true → overlaps_kept x.destinations (reach_of p) ≡ true
+pub over_kept : (m : MetaView) (x : CopyingView) → IsBegun m x → (place : ℕ) (d : Component) → IsKeptDestination x place d → (y : ℕ) → IsOf d y → (p : Part) → is_over y p ≡ true → overlaps_kept x.destinations (reach_of p) ≡ true
 over_kept m x b place d is y own p over =
     let r = over_reach p y over in
     let low = own.0 in

@@ -19,7 +19,7 @@ use Rattle.mirror_select.specs.Pieces as pieces
 use Rattle.mirror_select.proofs.Least.{In, get_there, to_contains}
 use Rattle.mirror_select.proofs.Sound.{IsGood, are_good, every_in, has_from}
 use Rattle.meta_server.specs.Files.{MetaView}
-use Rattle.meta_server.specs.Opening.{most_bytes}
+use Rattle.flr_base.specs.Limits.{most_bytes}
 use Rattle.call_steps.specs.Pieces.{object_of}
 use Rattle.call_steps.specs.Servers.{Servers}
 use Rattle.resync_copy.specs.declared.phase.Chunk.{Chunk}
@@ -33,7 +33,7 @@ use Rattle.copy_laws.proofs.Less.{frame_at}
 use Rattle.copy_laws.proofs.Places.{own_id}
 use Rattle.flr_claims.specs.Honesty.{IsOf, content}
 use Rattle.flr_sole.specs.Copies.{IsBegun}
-use Rattle.flr_bytes.specs.Calls.{IsDestination}
+use Rattle.flr_bytes.specs.Calls.{IsKeptDestination}
 use Rattle.flr_bytes.specs.Sentences.{AreBytes}
 use Rattle.flr_bytes.proofs.Held.{held_unmade}
 use Rattle.flr_bytes.specs.Fitting.{IsChunkFit}
@@ -43,7 +43,7 @@ use Rattle.flr_honest.proofs.Copied.Following.{HolesAreZero, chosen_has}
 
 -- each fresh component holds the file's bytes where a destination that isn't left has them
 abbrev pub FreshHold : Servers → (ℕ → ℕ) → CopyingView → Type 0
-FreshHold s byte x = (c : Component) → In c x.side.layout.components → c.flags.stale ≡ false → (place : ℕ) (d : Component) → IsDestination x place d → (y : ℕ) → IsOf c y → IsOf d y → held (content s) c y ≡ byte y
+FreshHold s byte x = (c : Component) → In c x.side.layout.components → c.flags.stale ≡ false → (place : ℕ) (d : Component) → IsKeptDestination x place d → (y : ℕ) → IsOf c y → IsOf d y → held (content s) c y ≡ byte y
 
 -- so holes are zero
 pub holes_zero : (s : Servers) (byte : ℕ → ℕ) (x : CopyingView) → FreshHold s byte x → HolesAreZero byte x
@@ -84,7 +84,7 @@ read_bytes s byte c good init number end cut hold i = by (cases_lt i (end - chun
 -- the destination of a chunk, among the components
 pub record HasDestination (h : Chunk) : Type 0 where
   pub component : Component
-  pub is : IsDestination h.copying h.place component
+  pub is : IsKeptDestination h.copying h.place component
   pub first : component.extent.start ≤ chunk_start h.number
 
 module _ (m : MetaView) (h : Chunk) (b : IsBegun m h.copying) (fit : IsChunkFit h) where
@@ -97,9 +97,9 @@ module _ (m : MetaView) (h : Chunk) (b : IsBegun m h.copying) (fit : IsChunkFit 
   pub has_destination : HasDestination h
   has_destination =
       let frame = frame_at cs h.copying.ids h.copying.destinations b.1 h.place fit.within in
-      let w = every_in (fitting.IsDestination cs) h.copying.ids (get_or h.copying.ids h.place 0) fit.copying.made (get_there h.copying.ids h.place 0 frame.there) in
+      let w = every_in (fitting.HasItsObjects cs) h.copying.ids (get_or h.copying.ids h.place 0) fit.copying.made (get_there h.copying.ids h.place 0 frame.there) in
       let here : In w.0 cs = with_id_in cs (get_or h.copying.ids h.place 0) w.0 w.1 in
-      let is : IsDestination h.copying h.place w.0 = record { within = fit.within; kept = fit.kept; listed = to_contains cs w.0 here; same = own_id cs (get_or h.copying.ids h.place 0) w.0 w.1 ∙ sym frame.component } in
+      let is : IsKeptDestination h.copying h.place w.0 = record { within = fit.within; kept = fit.kept; listed = to_contains cs w.0 here; same = own_id cs (get_or h.copying.ids h.place 0) w.0 w.1 ∙ sym frame.component } in
       let start = ap (λ (r : Range). r.start) (extent_is h.copying b.0.2 b.1 h.place w.0 is) in
       let aligned = ((are_good l b.0.2).each w.0 here).starts in
       let from = fit.from in

@@ -20,7 +20,7 @@ use Rattle.flr_steps.specs.Clients.{call_now}
 use Rattle.flr_steps.specs.States.{State}
 use Rattle.flr_steps.specs.Traces.{Trace, traced}
 use Rattle.flr_claims.specs.Honesty.{IsOf, content}
-use Rattle.flr_bytes.specs.Calls.{ClearsCopied, IsCopied, IsDestination}
+use Rattle.flr_bytes.specs.Calls.{ClearsCopied, HoldsFile, IsKeptDestination}
 use Rattle.flr_bytes.specs.Laws.{StepsKeepBytes, StepsWrite}
 use Rattle.flr_bytes.specs.Origins.{IsClearedBy}
 use Rattle.flr_bytes.specs.Runs.{Honest, IsStep}
@@ -29,7 +29,7 @@ use Rattle.flr_honest.proofs.Held.Ends.{bytes_still, copy_still}
 use Rattle.flr_honest.proofs.Held.Staying.{same_held, still_held}
 
 -- a component of the copy's layout that is to be cleared is a destination that isn't left
-pub is_destination : (x : CopyingView) (d : Component) → Contains x.side.layout.components d → is_named (cleared_of x.destinations) d ≡ true → (place : ℕ) × IsDestination x place d
+pub is_destination : (x : CopyingView) (d : Component) → Contains x.side.layout.components d → is_named (cleared_of x.destinations) d ≡ true → (place : ℕ) × IsKeptDestination x place d
 is_destination x d listed named =
     let found = some_in (nat_eq d.id) (cleared_of x.destinations) named in
     let at = cleared_place x.destinations found.0 found.1 in
@@ -44,10 +44,10 @@ module _ (write : StepsWrite) (keep : StepsKeepBytes) (s t : State) (old new : T
   b = w.was.component
 
   -- it had copied the component
-  copied : IsCopied s.shared (byte_in s old w.key.file) b
+  copied : HoldsFile s.shared (byte_in s old w.key.file) b
   copied = by (clears w.held)
     where
-      by : (w.cleared ≡ []) ⊎ ((y : CopyingView) × (y.side.key ≡ w.key) × Leases s.shared.meta w.key y.side.layout × (w.cleared ≡ cleared_of y.destinations) × ((place : ℕ) (a : Component) → IsDestination y place a → IsCopied s.shared (byte_in s old w.key.file) a)) → IsCopied s.shared (byte_in s old w.key.file) b
+      by : (w.cleared ≡ []) ⊎ ((y : CopyingView) × (y.side.key ≡ w.key) × Leases s.shared.meta w.key y.side.layout × (w.cleared ≡ cleared_of y.destinations) × ((place : ℕ) (a : Component) → IsKeptDestination y place a → HoldsFile s.shared (byte_in s old w.key.file) a)) → HoldsFile s.shared (byte_in s old w.key.file) b
       by (inl none) = absurd (false≢true (ap (λ (ids : List ℕ). is_named ids b) (sym none) ∙ w.named))
       by (inr r) =
           let there : file_of w.key.file s.shared.meta.files ≡ Some g = ap (λ k. file_of k s.shared.meta.files) w.same ∙ w.was.there in

@@ -13,7 +13,7 @@ use Rattle.mirror_select.specs.Pieces.{piece_at}
 use Rattle.mirror_select.proofs.Least.{In}
 use Rattle.mirror_select.proofs.Sound.{IsGood, are_good, has_from, has_parts}
 use Rattle.mirror_select.proofs.Whole.{lies_in}
-use Rattle.meta_server.specs.Opening.{most_bytes}
+use Rattle.flr_base.specs.Limits.{most_bytes}
 use Rattle.mirror_verify.specs.declared.copies.BlockCopy.{BlockCopy}
 use Rattle.mirror_verify.specs.Blocks.{block, block_count, copies_from, copies_in, copies_of, copy_of, holders, is_first}
 

@@ -16,7 +16,7 @@ use Rattle.resync_copy.specs.Views.{CopyingView}
 use Rattle.copy_laws.proofs.Less.{less_at}
 use Rattle.flr_claims.specs.Honesty.{IsOf, content}
 use Rattle.flr_claims.specs.Sending.{Part, reach_of}
-use Rattle.flr_bytes.specs.Calls.{AreCopied, IsCopied, IsCopiedTo, IsDestination, StageSays}
+use Rattle.flr_bytes.specs.Calls.{AreCopied, HoldsFile, IsCopiedTo, IsKeptDestination, StageSays}
 use Rattle.flr_bytes.proofs.Held.{held_unmade}
 use Rattle.flr_honest.proofs.Lasting.Destinations.{destination_extent, still_kept}
 use Rattle.flr_honest.proofs.Lasting.Going.{Goes, IsHoleOf, chunks_from_go, copies_go, end_at}
@@ -29,16 +29,16 @@ clear_less s lands byte x place call clear = ((clear.0.0, (less_at place call x.
 module _ (s : Servers) (byte : ℕ → ℕ → ℕ) (size : ℕ) where
   -- past the size the file has no bytes; the destinations before a place are copied, and those from there on are empty
   pub record AreBefore (x : CopyingView) (place : ℕ) : Type 0 where
-    pub past : (p : ℕ) (d : Component) (y : ℕ) → IsDestination x p d → IsOf d y → size ≤ y → byte x.side.key.file y ≡ 0
-    pub before : (p : ℕ) (d : Component) → IsDestination x p d → p < place → IsCopied s (byte x.side.key.file) d
-    pub behind : (p : ℕ) (d : Component) → IsDestination x p d → place ≤ p → IsCopiedTo s (byte x.side.key.file) d 0
+    pub past : (p : ℕ) (d : Component) (y : ℕ) → IsKeptDestination x p d → IsOf d y → size ≤ y → byte x.side.key.file y ≡ 0
+    pub before : (p : ℕ) (d : Component) → IsKeptDestination x p d → p < place → HoldsFile s (byte x.side.key.file) d
+    pub behind : (p : ℕ) (d : Component) → IsKeptDestination x p d → place ≤ p → IsCopiedTo s (byte x.side.key.file) d 0
 
   -- so it is with those at other places, and the one at the place is copied up to this chunk
   pub record AreAmid (x : CopyingView) (place number : ℕ) : Type 0 where
-    pub past : (p : ℕ) (d : Component) (y : ℕ) → IsDestination x p d → IsOf d y → size ≤ y → byte x.side.key.file y ≡ 0
-    pub before : (p : ℕ) (d : Component) → IsDestination x p d → p < place → IsCopied s (byte x.side.key.file) d
-    pub here : (d : Component) → IsDestination x place d → IsCopiedTo s (byte x.side.key.file) d (chunk_start number)
-    pub behind : (p : ℕ) (d : Component) → IsDestination x p d → place < p → IsCopiedTo s (byte x.side.key.file) d 0
+    pub past : (p : ℕ) (d : Component) (y : ℕ) → IsKeptDestination x p d → IsOf d y → size ≤ y → byte x.side.key.file y ≡ 0
+    pub before : (p : ℕ) (d : Component) → IsKeptDestination x p d → p < place → HoldsFile s (byte x.side.key.file) d
+    pub here : (d : Component) → IsKeptDestination x place d → IsCopiedTo s (byte x.side.key.file) d (chunk_start number)
+    pub behind : (p : ℕ) (d : Component) → IsKeptDestination x p d → place < p → IsCopiedTo s (byte x.side.key.file) d 0
 
 module _ (s : Servers) (lands : ℕ → Part → Type 0) (byte : ℕ → ℕ → ℕ) (size : ℕ) where
   abbrev pub Ready : CopyingView → ℕ → Type 0
@@ -48,7 +48,7 @@ module _ (s : Servers) (lands : ℕ → Part → Type 0) (byte : ℕ → ℕ →
   At x place number = IsClear s lands byte x × (state_of s.meta.leases x.side.key ≡ Held → AreAmid s byte size x place number)
 
   -- a byte in a hole is zero
-  hole_zero : (x : CopyingView) → IsClear s lands byte x → state_of s.meta.leases x.side.key ≡ Held → (place : ℕ) (d : Component) (y : ℕ) → IsDestination x place d → IsOf d y → (failed : List ℕ) → IsHoleOf x.side.layout.components failed (chunk_of y) → byte x.side.key.file y ≡ 0
+  hole_zero : (x : CopyingView) → IsClear s lands byte x → state_of s.meta.leases x.side.key ≡ Held → (place : ℕ) (d : Component) (y : ℕ) → IsKeptDestination x place d → IsOf d y → (failed : List ℕ) → IsHoleOf x.side.layout.components failed (chunk_of y) → byte x.side.key.file y ≡ 0
   hole_zero x clear stands place d y is own failed h =
       let low : chunk_start (chunk_of y) ≤ y = omega arith in
       let high : y < chunk_start (chunk_of y) + 65536 = omega arith in
@@ -57,7 +57,7 @@ module _ (s : Servers) (lands : ℕ → Part → Type 0) (byte : ℕ → ℕ →
   skips : (x : CopyingView) (place number next : ℕ) (failed : List ℕ) → At x place number → ((n : ℕ) → number ≤ n → n < next → IsHoleOf x.side.layout.components failed n) → number ≤ next → At x place next
   skips x place number next failed k holes up = (k.0, λ stands. (let a = k.1 stands in record { past = a.past; before = a.before; here = λ d is y own. (here stands a d is y own, λ past. (a.here d is y own).1 (omega (arith, past, up))); behind = a.behind }))
     where
-      here : state_of s.meta.leases x.side.key ≡ Held → (a : AreAmid s byte size x place number) → (d : Component) → IsDestination x place d → (y : ℕ) → IsOf d y → y < chunk_start next → held (content s) d y ≡ byte x.side.key.file y
+      here : state_of s.meta.leases x.side.key ≡ Held → (a : AreAmid s byte size x place number) → (d : Component) → IsKeptDestination x place d → (y : ℕ) → IsOf d y → y < chunk_start next → held (content s) d y ≡ byte x.side.key.file y
       here stands a d is y own less = by (cases_lt y (chunk_start number))
         where
           by : (y < chunk_start number) ⊎ (chunk_start number ≤ y) → held (content s) d y ≡ byte x.side.key.file y
@@ -70,7 +70,7 @@ module _ (s : Servers) (lands : ℕ → Part → Type 0) (byte : ℕ → ℕ →
   ends : (x : CopyingView) (place number : ℕ) (failed : List ℕ) → At x place number → ((n : ℕ) → number ≤ n → chunk_start n < end_at size x place → IsHoleOf x.side.layout.components failed n) → Ready x (place + 1)
   ends x place number failed k holes = (k.0, λ stands. (let a = k.1 stands in record { past = a.past; before = λ p d is less. before stands a p d is less (cases_lt p place); behind = λ p d is more. a.behind p d is (omega (arith, more)) }))
     where
-      whole : state_of s.meta.leases x.side.key ≡ Held → (a : AreAmid s byte size x place number) → (d : Component) → IsDestination x place d → IsCopied s (byte x.side.key.file) d
+      whole : state_of s.meta.leases x.side.key ≡ Held → (a : AreAmid s byte size x place number) → (d : Component) → IsKeptDestination x place d → HoldsFile s (byte x.side.key.file) d
       whole stands a d is y own = by (cases_lt y (chunk_start number)) (cases_lt y size)
         where
           by : (y < chunk_start number) ⊎ (chunk_start number ≤ y) → (y < size) ⊎ (size ≤ y) → held (content s) d y ≡ byte x.side.key.file y
@@ -84,9 +84,9 @@ module _ (s : Servers) (lands : ℕ → Part → Type 0) (byte : ℕ → ℕ →
               let to : chunk_start (chunk_of y) < end_at size x place = omega (arith, less, last, within) in
               (a.here d is y own).1 high ∙ sym (hole_zero x k.0 stands place d y is own failed (holes (chunk_of y) from to))
 
-      before : state_of s.meta.leases x.side.key ≡ Held → (a : AreAmid s byte size x place number) → (p : ℕ) (d : Component) → IsDestination x p d → p < place + 1 → (p < place) ⊎ (place ≤ p) → IsCopied s (byte x.side.key.file) d
+      before : state_of s.meta.leases x.side.key ≡ Held → (a : AreAmid s byte size x place number) → (p : ℕ) (d : Component) → IsKeptDestination x p d → p < place + 1 → (p < place) ⊎ (place ≤ p) → HoldsFile s (byte x.side.key.file) d
       before stands a p d is less (inl low) = a.before p d is low
-      before stands a p d is less (inr high) = let same : p ≡ place = omega (arith, less, high) in whole stands a d (subst (λ k. IsDestination x k d) same is)
+      before stands a p d is less (inr high) = let same : p ≡ place = omega (arith, less, high) in whole stands a d (subst (λ k. IsKeptDestination x k d) same is)
 
   leaves : (x : CopyingView) (place number : ℕ) (call : FailedCall) → At x place number → Ready (leaves_at x place call) (place + 1)
   leaves x place number call k = (
@@ -105,14 +105,14 @@ module _ (s : Servers) (lands : ℕ → Part → Type 0) (byte : ℕ → ℕ →
   passes : (x : CopyingView) (place : ℕ) → Ready x place → is_kept (destination_at x.destinations place) ≡ false → Ready x (place + 1)
   passes x place r isnt = (r.0, λ stands. (let a = r.1 stands in record { past = a.past; before = λ p d is less. a.before p d is (by p d is less (cases_lt p place)); behind = λ p d is more. a.behind p d is (omega (arith, more)) }))
     where
-      by : (p : ℕ) (d : Component) → IsDestination x p d → p < place + 1 → (p < place) ⊎ (place ≤ p) → p < place
+      by : (p : ℕ) (d : Component) → IsKeptDestination x p d → p < place + 1 → (p < place) ⊎ (place ≤ p) → p < place
       by p d is less (inl low) = low
       by p d is less (inr high) = let same : p ≡ place = omega (arith, less, high) in absurd (false≢true (sym isnt ∙ ap (λ k. is_kept (destination_at x.destinations k)) (sym same) ∙ is.kept))
 
   starts : (x : CopyingView) (place : ℕ) → Ready x place → place < length x.destinations → is_kept (destination_at x.destinations place) ≡ true → At x place (chunk_of (destination_at x.destinations place).extent.start)
   starts x place r within kept = (r.0, λ stands. (let a = r.1 stands in record { past = a.past; before = a.before; here = λ d is y own. ((λ less. absurd (never d is y own less)), λ past. (a.behind place d is (omega arith) y own).1 (omega arith)); behind = λ p d is more. a.behind p d is (omega (arith, more)) }))
     where
-      never : (d : Component) → IsDestination x place d → (y : ℕ) → IsOf d y → y < chunk_start (chunk_of (destination_at x.destinations place).extent.start) → ⊥
+      never : (d : Component) → IsKeptDestination x place d → (y : ℕ) → IsOf d y → y < chunk_start (chunk_of (destination_at x.destinations place).extent.start) → ⊥
       never d is y own less =
           let first : (destination_at x.destinations place).extent.start ≡ d.extent.start = ap (λ (e : Range). e.start) (destination_extent x r.0.0.0.2 r.0.0.1 place d is) in
           let low = own.0 in

@@ -13,10 +13,10 @@ use Rattle.resync_copy.specs.Views.{CopyingView}
 use Rattle.copy_laws.proofs.Less.{IsFrame, at_left, frame_at, kept_over, length_at}
 use Rattle.copy_laws.proofs.Places.{extent_of, with_own}
 use Rattle.flr_sole.specs.Copies.{unleft}
-use Rattle.flr_bytes.specs.Calls.{IsDestination}
+use Rattle.flr_bytes.specs.Calls.{IsKeptDestination}
 use Rattle.std.specs.Prelude.{slice_index}
 
-module _ (x : CopyingView) (valid : IsValid x.side.layout) (same : map unleft x.destinations ≡ destinations_in x.side.layout.components x.ids) (place : ℕ) (d : Component) (is : IsDestination x place d) where
+module _ (x : CopyingView) (valid : IsValid x.side.layout) (same : map unleft x.destinations ≡ destinations_in x.side.layout.components x.ids) (place : ℕ) (d : Component) (is : IsKeptDestination x place d) where
   pub destination_in : In d x.side.layout.components
   destination_in = from_contains x.side.layout.components d is.listed
 
@@ -44,7 +44,7 @@ module _ (x : CopyingView) (valid : IsValid x.side.layout) (same : map unleft x.
       (ap (λ (e : Range). overlap e r) destination_extent ∙ and_from (ltb d.extent.start r.end) (ltb r.start d.extent.end) (lt-ltb d.extent.start r.end (omega (arith, low, to))) (lt-ltb r.start d.extent.end (omega (arith, from, high))))
 
 -- where one is left, those that aren't were so before, and are others
-pub still_kept : (x : CopyingView) (place : ℕ) (call : FailedCall) (p : ℕ) (d : Component) → IsDestination (leaves_at x place call) p d → (p ≡ place → ⊥) × IsDestination x p d
+pub still_kept : (x : CopyingView) (place : ℕ) (call : FailedCall) (p : ℕ) (d : Component) → IsKeptDestination (leaves_at x place call) p d → (p ≡ place → ⊥) × IsKeptDestination x p d
 still_kept x place call p d is = (apart, record { within = within; kept = ap is_kept (sym same) ∙ is.kept; listed = is.listed; same = is.same ∙ ap (λ (e : Destination). e.component) same })
   where
     within : p < length x.destinations

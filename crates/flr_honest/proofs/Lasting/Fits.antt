@@ -15,7 +15,7 @@ use Rattle.meta_server.specs.Closing.{size_of}
 use Rattle.meta_server.specs.declared.answers.Begun.TheVariants as begun_as
 use Rattle.meta_server.specs.declared.answers.Side.{Side}
 use Rattle.meta_server.specs.Files.{File, MetaView, file_of}
-use Rattle.meta_server.specs.Opening.{most_bytes}
+use Rattle.flr_base.specs.Limits.{most_bytes}
 use Rattle.meta_server.specs.Outcomes.{Gives, Refuses, Waits}
 use Rattle.meta_server.specs.Outcomes as meta
 use Rattle.meta_server.specs.Sound.{IsSound, IsSoundFile}

@@ -7,14 +7,14 @@ use Rattle.resync_copy.specs.declared.phase.Chunk.{Chunk}
 use Rattle.resync_copy.specs.Chunks.{chunk_start}
 use Rattle.resync_copy.specs.Views.{CopyingView}
 use Rattle.flr_claims.specs.Honesty.{IsOf, content}
-use Rattle.flr_bytes.specs.Calls.{AreCopied, IsCopied, IsCopiedTo, IsDestination}
+use Rattle.flr_bytes.specs.Calls.{AreCopied, HoldsFile, IsCopiedTo, IsKeptDestination}
 use Rattle.flr_honest.proofs.Lasting.Chunks.{AreAmid}
 
-module _ (s after : Servers) (byte new : ℕ → ℕ → ℕ) (x : CopyingView) (same : (place : ℕ) (d : Component) (y : ℕ) → IsDestination x place d → IsOf d y → held (content after) d y ≡ held (content s) d y) (kept : (place : ℕ) (d : Component) (y : ℕ) → IsDestination x place d → IsOf d y → new x.side.key.file y ≡ byte x.side.key.file y) where
-  pub still_copied : (place : ℕ) (d : Component) → IsDestination x place d → IsCopied s (byte x.side.key.file) d → IsCopied after (new x.side.key.file) d
+module _ (s after : Servers) (byte new : ℕ → ℕ → ℕ) (x : CopyingView) (same : (place : ℕ) (d : Component) (y : ℕ) → IsKeptDestination x place d → IsOf d y → held (content after) d y ≡ held (content s) d y) (kept : (place : ℕ) (d : Component) (y : ℕ) → IsKeptDestination x place d → IsOf d y → new x.side.key.file y ≡ byte x.side.key.file y) where
+  pub still_copied : (place : ℕ) (d : Component) → IsKeptDestination x place d → HoldsFile s (byte x.side.key.file) d → HoldsFile after (new x.side.key.file) d
   still_copied place d is was y own = same place d y is own ∙ was y own ∙ sym (kept place d y is own)
 
-  pub still_copied_to : (place : ℕ) (d : Component) (end : ℕ) → IsDestination x place d → IsCopiedTo s (byte x.side.key.file) d end → IsCopiedTo after (new x.side.key.file) d end
+  pub still_copied_to : (place : ℕ) (d : Component) (end : ℕ) → IsKeptDestination x place d → IsCopiedTo s (byte x.side.key.file) d end → IsCopiedTo after (new x.side.key.file) d end
   still_copied_to place d end is was y own = ((λ less. same place d y is own ∙ (was y own).0 less ∙ sym (kept place d y is own)), λ past. same place d y is own ∙ (was y own).1 past)
 
   pub still_amid : (size place number : ℕ) → AreAmid s byte size x place number → AreAmid after new size x place number

@@ -36,7 +36,7 @@ use Rattle.flr_sole.specs.Copies.{AreFenced, AreReset, HasLandedOn, IsBegun, IsR
 use Rattle.flr_sole.specs.Copies as sole
 use Rattle.flr_sole.proofs.Excluding.{none_may_reach}
 use Rattle.flr_sole.proofs.Others.{held_before, held_there}
-use Rattle.flr_bytes.specs.Calls.{AreEmptied, CopiedSoFar, IsDestination}
+use Rattle.flr_bytes.specs.Calls.{AreEmptied, CopiedSoFar, IsKeptDestination}
 use Rattle.flr_bytes.specs.Files as plain
 use Rattle.flr_bytes.specs.Laws.{StepsKeepBytes, StepsWrite}
 use Rattle.flr_bytes.specs.Runs.{Honest, IsStep}
@@ -95,7 +95,7 @@ module _ (write : StepsWrite) (keep : StepsKeepBytes) (s t : State) (old new : T
 
     module _ (fenced : AreFenced s.shared.targets x (length (fences_of x))) (reset : AreReset s.shared.targets x (length (resets_of x))) (none : sole.NoneLands s.shared.meta (λ n p. HasLandedOn s old n p) x.side.key (overlaps_kept x.destinations)) (stands : state_of t.shared.meta.leases x.side.key ≡ Held) where
       -- an object of a destination that isn't left stays
-      pub object_same : (place : ℕ) (d : Component) → IsDestination x place d → (o : ObjectId) → In o d.objects → content t.shared o ≡ content s.shared o
+      pub object_same : (place : ℕ) (d : Component) → IsKeptDestination x place d → (o : ObjectId) → In o d.objects → content t.shared o ≡ content s.shared o
       object_same place d to o has =
           let stood = back x.side.key others stands in
           let f = held_there s.shared.meta x.side.key is.before.holds.servers.sound stood in
@@ -115,10 +115,10 @@ module _ (write : StepsWrite) (keep : StepsKeepBytes) (s t : State) (old new : T
           ))
           o has (omega (arith, level, low)) (write s t old new c is e)
 
-      pub same : (place : ℕ) (d : Component) (y : ℕ) → IsDestination x place d → IsOf d y → held (content t.shared) d y ≡ held (content s.shared) d y
+      pub same : (place : ℕ) (d : Component) (y : ℕ) → IsKeptDestination x place d → IsOf d y → held (content t.shared) d y ≡ held (content s.shared) d y
       same place d y to own = held_same (content s.shared) (content t.shared) d y (λ o at. ap (λ (bs : List ℕ). get_or bs (place_of y d.stripe).offset 0) (object_same place d to o (listed_at d.objects (place_of y d.stripe).index o at)))
 
-      pub kept : (place : ℕ) (d : Component) (y : ℕ) → IsDestination x place d → IsOf d y → byte_in t new x.side.key.file y ≡ byte_in s old x.side.key.file y
+      pub kept : (place : ℕ) (d : Component) (y : ℕ) → IsKeptDestination x place d → IsOf d y → byte_in t new x.side.key.file y ≡ byte_in s old x.side.key.file y
       kept place d y to own = byte_same x.side.key others stands y (λ p landed over. (let r = over_reach p y over in none (back x.side.key others stands) p landed (destination_over x begun.0.2 begun.1 place d to y (reach_of p) own.0 own.1 r.0 r.1)))
 
   -- a chunk

@@ -27,7 +27,7 @@ use Rattle.flr_shut.specs.Sentences.{AreStale, IsKeptOff, OnCopying}
 use Rattle.flr_sole.specs.Copies.{AreFenced, AreReset, HasLandedOn, IsBegun, IsReady}
 use Rattle.flr_sole.specs.Copies as sole
 use Rattle.flr_sole.proofs.Others.{held_there}
-use Rattle.flr_bytes.specs.Calls.{IsDestination, IsInHand, StageSays}
+use Rattle.flr_bytes.specs.Calls.{IsKeptDestination, IsInHand, StageSays}
 use Rattle.flr_bytes.specs.Laws.{StepsKeepBytes, StepsWrite}
 use Rattle.flr_bytes.specs.Runs.{Honest, IsStep}
 use Rattle.flr_bytes.specs.Sentences.{byte_in}
@@ -46,7 +46,7 @@ use Rattle.copy_laws.proofs.Less.{cleared_place}
 use Rattle.flr_base.specs.declared.reply.Left.{Left}
 use Rattle.flr_numbers.specs.Copies.{IsListed, IsListedAt, copy_hand}
 use Rattle.flr_shut.specs.Sentences.{CopyShut, IsShut}
-use Rattle.flr_bytes.specs.Calls.{ClearsCopied, CopySays, IsCopied, Says}
+use Rattle.flr_bytes.specs.Calls.{ClearsCopied, CopySays, HoldsFile, Says}
 use Rattle.flr_bytes.specs.Fitting.{IsFitAt, IsFit}
 
 -- a destination that isn't left is to be cleared
@@ -93,8 +93,8 @@ module _ (write : StepsWrite) (keep : StepsKeepBytes) (s t : State) (old new : T
       stood : state_of s.shared.meta.leases key ≡ Held
       stood = back write keep s t old new c is e planned honest key others stands
 
-      by : (cleared ≡ []) ⊎ ((x : CopyingView) × (x.side.key ≡ key) × Leases s.shared.meta key x.side.layout × (cleared ≡ cleared_of x.destinations) × ((place : ℕ) (d : Component) → IsDestination x place d → IsCopied s.shared (byte_in s old key.file) d))
-          → (cleared ≡ []) ⊎ ((x : CopyingView) × (x.side.key ≡ key) × Leases t.shared.meta key x.side.layout × (cleared ≡ cleared_of x.destinations) × ((place : ℕ) (d : Component) → IsDestination x place d → IsCopied t.shared (byte_in t new key.file) d))
+      by : (cleared ≡ []) ⊎ ((x : CopyingView) × (x.side.key ≡ key) × Leases s.shared.meta key x.side.layout × (cleared ≡ cleared_of x.destinations) × ((place : ℕ) (d : Component) → IsKeptDestination x place d → HoldsFile s.shared (byte_in s old key.file) d))
+          → (cleared ≡ []) ⊎ ((x : CopyingView) × (x.side.key ≡ key) × Leases t.shared.meta key x.side.layout × (cleared ≡ cleared_of x.destinations) × ((place : ℕ) (d : Component) → IsKeptDestination x place d → HoldsFile t.shared (byte_in t new key.file) d))
       by (inl none) = inl none
       by (inr r) = inr (
         r.0,
@@ -107,7 +107,7 @@ module _ (write : StepsWrite) (keep : StepsKeepBytes) (s t : State) (old new : T
             let theirs : f.0.layout ≡ q.0.side.layout = q.3.0.0.1 (ap (state_of s.shared.meta.leases) q.1 ∙ stood) f.0 (ap (λ (k : KeyView). file_of k.file s.shared.meta.files) q.1 ∙ f.1) in
             let listed : Contains q.0.side.layout.components d = subst (λ (l : Composite). Contains l.components d) (sym mine ∙ theirs) to.listed in
             let w = cleared_place q.0.destinations (destination_at r.0.destinations place).component (subst (λ (ids : List ℕ). In (destination_at r.0.destinations place).component ids) (sym r.3 ∙ q.2) (in_cleared r.0.destinations place to.within to.kept)) in
-            let too : IsDestination q.0 w.0 d = record { within = w.1.there; kept = w.1.kept; listed = listed; same = to.same ∙ sym w.1.same } in
+            let too : IsKeptDestination q.0 w.0 d = record { within = w.1.there; kept = w.1.kept; listed = listed; same = to.same ∙ sym w.1.same } in
             let apart : q.0.side.key.client ≡ c → ⊥ = (λ one. others (ap (λ (k : KeyView). k.client) (sym q.1) ∙ one)) in
             let standing : state_of t.shared.meta.leases q.0.side.key ≡ Held = ap (state_of t.shared.meta.leases) q.1 ∙ stands in
             same write keep s t old new c is e planned honest q.0 apart q.3.0 q.3.1 q.3.2 q.3.3 standing w.0 d y too own

@@ -25,7 +25,7 @@ use Rattle.meta_server.specs.declared.answers.Begun.TheVariants as begun_as
 use Rattle.meta_server.specs.declared.answers.Side.{Side}
 use Rattle.meta_server.specs.Ending.{copy_ends, merge_ends}
 use Rattle.meta_server.specs.Files.{MetaView, file_named}
-use Rattle.meta_server.specs.Opening.{most_bytes}
+use Rattle.flr_base.specs.Limits.{most_bytes}
 use Rattle.meta_server.specs.Outcomes.{Ending, Ends, Breaks, Holds, Gives, Refuses, Waits}
 use Rattle.meta_server.specs.Outcomes as meta
 use Rattle.call_steps.specs.Pieces.{length_of, object_of}

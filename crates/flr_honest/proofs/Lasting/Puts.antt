@@ -35,7 +35,7 @@ use Rattle.copy_laws.proofs.Places.{own_id}
 use Rattle.flr_claims.specs.Honesty.{content}
 use Rattle.flr_claims.specs.Sending.{Part}
 use Rattle.flr_shut.specs.Sentences.{AreStale}
-use Rattle.flr_bytes.specs.Calls.{CopiedSoFar, IsCopiedTo, IsDestination, IsInHand}
+use Rattle.flr_bytes.specs.Calls.{CopiedSoFar, IsCopiedTo, IsKeptDestination, IsInHand}
 use Rattle.flr_bytes.specs.Writing.{AreWritten}
 use Rattle.flr_bytes.proofs.Landing.{LiesOn, piece_beside, piece_over}
 use Rattle.flr_bytes.specs.Fitting.{IsChunkFit}
@@ -87,8 +87,8 @@ module _ (s : Servers) (h : Chunk) (sound : IsSound s.meta) (once : AreObjectsOn
   pub frame : IsFrame h.copying.side.layout.components h.copying.ids h.place (destination_of h)
   frame = frame_at h.copying.side.layout.components h.copying.ids h.copying.destinations clear.0.1 h.place own.within
 
-  abbrev pub owned : fitting.IsDestination h.copying.side.layout.components (slice_index h.copying.ids h.place)
-  owned = every_in (fitting.IsDestination h.copying.side.layout.components) h.copying.ids (get_or h.copying.ids h.place 0) own.copying.made (get_there h.copying.ids h.place 0 frame.there)
+  abbrev pub owned : fitting.HasItsObjects h.copying.side.layout.components (slice_index h.copying.ids h.place)
+  owned = every_in (fitting.HasItsObjects h.copying.side.layout.components) h.copying.ids (get_or h.copying.ids h.place 0) own.copying.made (get_there h.copying.ids h.place 0 frame.there)
 
   -- the destination of the chunk
   abbrev pub d : Component
@@ -100,7 +100,7 @@ module _ (s : Servers) (h : Chunk) (sound : IsSound s.meta) (once : AreObjectsOn
   id : d.id ≡ slice_index x.ids h.place
   id = own_id cs (slice_index x.ids h.place) d owned.1
 
-  pub is : IsDestination x h.place d
+  pub is : IsKeptDestination x h.place d
   is = record { within = own.within; kept = own.kept; listed = to_contains cs d i; same = id ∙ sym frame.component }
 
   good : IsGood d
@@ -154,7 +154,7 @@ module _ (s : Servers) (h : Chunk) (sound : IsSound s.meta) (once : AreObjectsOn
     abbrev pub after : Servers
     after = record s { targets = targets }
 
-    other : state_of s.meta.leases x.side.key ≡ Held → (place : ℕ) (e : Component) → IsDestination x place e → (place ≡ h.place → ⊥) → (y : ℕ) → held (content after) e y ≡ held (content s) e y
+    other : state_of s.meta.leases x.side.key ≡ Held → (place : ℕ) (e : Component) → IsKeptDestination x place e → (place ≡ h.place → ⊥) → (y : ℕ) → held (content after) e y ≡ held (content s) e y
     other stands place e to apart y =
         other_holds s.meta sound once x.side clear.0.0 stands s after o others d e i (destination_in x clear.0.0.2 clear.0.1 place e to) has
         (λ same. apart (own.copying.once place h.place (destination_there x clear.0.0.2 clear.0.1 place e to) frame.there (destination_id x clear.0.0.2 clear.0.1 place e to ∙ ap (λ (c : Component). c.id) (sym same) ∙ id))) y
@@ -209,7 +209,7 @@ module _ (s : Servers) (h : Chunk) (sound : IsSound s.meta) (once : AreObjectsOn
               let within = of.1 in
               beside stands y (λ from to. absurd (omega (arith, high, to))) ∙ ((says stands).here d is y of).1 low ∙ sym ((says stands).past h.place d y is of (omega (arith, less, high, last, within)))
 
-      only : (e : Component) → IsDestination x h.place e → d ≡ e
+      only : (e : Component) → IsKeptDestination x h.place e → d ≡ e
       only e to = let both : Some d ≡ Some e = sym owned.1 ∙ destination_found x clear.0.0.2 clear.0.1 h.place e to in cc
 
       -- where it lands, the destination is copied up to the next chunk

@@ -19,7 +19,7 @@ use Rattle.resync_copy.specs.Parts.{overlaps_kept}
 use Rattle.resync_copy.specs.Views.{CopyingView}
 use Rattle.flr_claims.specs.Honesty.{IsOf, content}
 use Rattle.flr_claims.specs.Sending.{OfTruncate, OfWrite, Part, is_over, reach_of}
-use Rattle.flr_bytes.specs.Calls.{IsDestination}
+use Rattle.flr_bytes.specs.Calls.{IsKeptDestination}
 use Rattle.flr_sole.specs.Copies.{IsBegun, NoneLands}
 use Rattle.flr_honest.proofs.Lasting.Destinations.{destination_over}
 
@@ -74,7 +74,7 @@ abbrev pub IsClear : Servers → (ℕ → Part → Type 0) → (ℕ → ℕ → 
 IsClear s lands byte x = IsBegun s.meta x × NoneLands s.meta lands x.side.key (overlaps_kept x.destinations) × AreHeld s lands byte x.side
 
 module _ (s : Servers) (lands : ℕ → Part → Type 0) (byte : ℕ → ℕ → ℕ) (x : CopyingView) (clear : IsClear s lands byte x) (stands : state_of s.meta.leases x.side.key ≡ Held) where
-  pub source_holds : (place : ℕ) (d : Component) (y : ℕ) → IsDestination x place d → IsOf d y → (failed : List ℕ) (n : ℕ) (c : Component) → chosen x.side.layout.components failed (chunk_start n) ≡ Some c → chunk_start n ≤ y → y < chunk_start n + 65536
+  pub source_holds : (place : ℕ) (d : Component) (y : ℕ) → IsKeptDestination x place d → IsOf d y → (failed : List ℕ) (n : ℕ) (c : Component) → chosen x.side.layout.components failed (chunk_start n) ≡ Some c → chunk_start n ≤ y → y < chunk_start n + 65536
       → held (content s) c y ≡ byte x.side.key.file y
   source_holds place d y is own failed n c chosen_is low high =
       let a = answers x.side.layout.components failed (chunk_start n) c chosen_is in

@@ -24,7 +24,8 @@ use Rattle.meta_server.specs.Layouts.{lessened, split_off}
 use Rattle.meta_server.specs.Naming.{creates, creates_file, creates_within, removes_alone, removes_file, removes_from, splits_fresh, splits_to, splits_within}
 use Rattle.meta_server.specs.Outcomes.{Gives, Refuses, Waits}
 use Rattle.meta_server.specs.Outcomes as meta
-use Rattle.mirror_admin.specs.OneStep.{answered, default_name, one_step}
+use Rattle.lfs_words.specs.Naming.{default_name}
+use Rattle.mirror_admin.specs.OneStep.{answered, one_step}
 use Rattle.call_steps.specs.Steps.{Outcome}
 use Rattle.flr_steps.specs.declared.client.Client.{Client}
 use Rattle.flr_steps.specs.declared.client.Running.{Running}

@@ -23,7 +23,8 @@ use Rattle.meta_server.specs.Outcomes.{Gives, Refuses, Waits, refusal_of}
 use Rattle.meta_server.specs.Outcomes as meta
 use Rattle.meta_laws.specs.Calls.{left_by}
 use Rattle.meta_laws.proofs.Cases.{set_cases}
-use Rattle.mirror_admin.specs.OneStep.{answered, default_name, one_step, shows}
+use Rattle.lfs_words.specs.Naming.{default_name}
+use Rattle.mirror_admin.specs.OneStep.{answered, one_step, shows}
 use Rattle.call_steps.specs.Servers.{Servers}
 use Rattle.flr_steps.specs.declared.client.Running.{Running}
 use Rattle.flr_steps.specs.Commands.{answered_by, at_once}

@@ -16,7 +16,8 @@ use Rattle.meta_server.specs.declared.answers.Opened.{Opened}
 use Rattle.meta_server.specs.Closing.{grown, is_there, shortened}
 use Rattle.meta_server.specs.Files.{File, MetaView, changed, file_named, file_of, with_layout, with_share}
 use Rattle.meta_server.specs.Layouts.{intended}
-use Rattle.meta_server.specs.Opening.{change_opens_file, cut_opens, intends, intends_to, limits, most_bytes, readies, write_opens}
+use Rattle.flr_base.specs.Limits.{most_bytes}
+use Rattle.meta_server.specs.Opening.{change_opens_file, cut_opens, intends, intends_to, limits, readies, write_opens}
 use Rattle.meta_server.specs.Outcomes.{Gives, Refuses, Waits}
 use Rattle.meta_server.specs.Outcomes as meta
 use Rattle.meta_server.specs.Sound.{IsSound}

@@ -6,6 +6,7 @@ use Rattle.flr_steps.specs.Reports.{text_of_run}
 use Rattle.flr_replay.specs.declared.play.Played.{Played}
 use Rattle.flr_replay.specs.Outcomes.{IsOutcome, LeadsTo}
 use Rattle.flr_replay.specs.Replays.{IsRefusal, IsReport}
+use Rattle.flr_replay.proofs.Taken.{is_no_good}
 use Rattle.flr_replay.proofs.Told.{long_refused, report_of_run}
 use Rattle.flr_replay.proofs.main_call.replay_main.Goals as goal
 
@@ -41,3 +42,11 @@ returns-in-Ok-Refused-clause-write_front g c e =
     let outcome = subst (λ (o : Played). IsOutcome c.as_slice.result.now o) c.in-Ok-Refused.field-0-is c.in-Ok-Refused.ensures in
     let is = subst (λ (b : List ℕ). IsRefusal b text) c.as_slice.ensures.same (subst (λ (t : List ℕ). IsRefusal c.as_slice.result.now t) (sym c.as_slice-in-Ok-Refused.ensures.value) outcome) in
     tells_front IsReport IsRefusal (g.S.Source.left c.args.input.now) (g.S.Source.left c.read_all.new.source) (g.K.Sink.taken c.args.out.now) (g.K.Sink.taken c.written-in-Ok-Refused.new.out) _ _ c.in-Ok.bytes text c.in-Ok.ensures.whole (inr (inl is)) (c.written-in-Ok-Refused.ensures.front e)
+
+pub returns-in-Ok-Refused-clause-good : goal.returns-in-Ok-Refused-clause-good
+returns-in-Ok-Refused-clause-good g c e =
+    let text = c.as_slice-in-Ok-Refused.result.now in
+    let outcome = subst (λ (o : Played). IsOutcome c.as_slice.result.now o) c.in-Ok-Refused.field-0-is c.in-Ok-Refused.ensures in
+    let is = subst (λ (b : List ℕ). IsRefusal b text) c.as_slice.ensures.same (subst (λ (t : List ℕ). IsRefusal c.as_slice.result.now t) (sym c.as_slice-in-Ok-Refused.ensures.value) outcome) in
+    is_no_good (g.S.Source.left c.args.input.now) (g.K.Sink.taken c.args.out.now) (g.K.Sink.taken c.written-in-Ok-Refused.new.out)
+    (tells IsRefusal (g.S.Source.left c.args.input.now) (g.S.Source.left c.read_all.new.source) (g.K.Sink.taken c.args.out.now) (g.K.Sink.taken c.written-in-Ok-Refused.new.out) c.in-Ok.bytes text c.in-Ok.ensures.whole is (c.written-in-Ok-Refused.ensures.whole e))

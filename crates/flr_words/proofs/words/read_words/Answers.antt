@@ -9,7 +9,7 @@ returns-then-has_flag c = refused_is_other _ (λ plain passes. cc)
 pub returns-in-Some : goal.returns-in-Some
 returns-in-Some c =
     let h = rw c.in-Some.is at c.in_ok-matches.ensures in
-    passed_asks _ (subcommand_rows_of c.in-Some.matches) _ (sym c.has_flag.ensures ∙ c.if-has_flag.false) h.0 h.1 c.asked.ensures.run c.asked.ensures.replay c.asked.ensures.migrate c.asked.ensures.soak
+    passed_asks _ (subcommand_rows_of c.in-Some.matches) _ (sym c.has_flag.ensures ∙ c.if-has_flag.false) h.0 h.1 c.asked.ensures.run c.asked.ensures.replay c.asked.ensures.migrate c.asked.ensures.soak c.asked.ensures.random
 
 pub returns-in-None : goal.returns-in-None
 returns-in-None c =

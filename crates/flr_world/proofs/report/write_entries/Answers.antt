@@ -11,5 +11,5 @@ returns-in_err-write_entry-clause-front g c =
 pub loop-entry-preserved : goal.loop-entry-preserved
 loop-entry-preserved g c = record {
   taken = taken_item (text_of_entry c.args.script.now) c.args.entries.now c.loop-entry.entry-index c.entry-item.result (g.K.Sink.taken c.args.out.now) (g.K.Sink.taken c.loop-entry.out) (g.K.Sink.taken c.write_entry.new.out) c.in_ok-write_entry.field-0 c.loop-entry-test.true c.entry-item.is c.loop-entry.invariant.taken c.in_ok-write_entry.ensures.front;
-  later = search rules;
+  kept = search rules;
 }

@@ -1,5 +1,5 @@
 use Rattle.std.proofs.Common.{List, ℕ, ap, ◌∙◌, sym, arith}
-use Rattle.mirror_admin.specs.OneStep.{default_name}
+use Rattle.lfs_words.specs.Naming.{default_name}
 use Rattle.mirror_admin.proofs.DefaultNames.{found, not_found}
 use Rattle.mirror_admin.proofs.names.has_default.Goals as goal
 

@@ -1,4 +1,4 @@
-use Rattle.mirror_admin.specs.OneStep.{default_end}
+use Rattle.lfs_words.specs.Naming.{default_end}
 use Rattle.mirror_admin.proofs.DefaultNames.{other_front, right_rest}
 use Rattle.mirror_admin.proofs.names.is_default.Goals as goal
 

@@ -15,5 +15,5 @@ returns-in_err-write_call-clause-front g c =
 pub loop-call-preserved : goal.loop-call-preserved
 loop-call-preserved g c = record {
   taken = taken_item text c.args.calls.now c.loop-call.call-index c.call-item.result (g.K.Sink.taken c.args.out.now) (g.K.Sink.taken c.loop-call.out) (g.K.Sink.taken c.write_call.new.out) c.in_ok-write_call.field-0 c.loop-call-test.true c.call-item.is c.loop-call.invariant.taken c.in_ok-write_call.ensures.front;
-  later = search rules;
+  kept = search rules;
 }

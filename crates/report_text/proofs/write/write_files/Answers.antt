@@ -15,5 +15,5 @@ returns-in_err-write_file-clause-front g c =
 pub loop-file-preserved : goal.loop-file-preserved
 loop-file-preserved g c = record {
   taken = taken_item text c.args.files.now c.loop-file.file-index c.file-item.result (g.K.Sink.taken c.args.out.now) (g.K.Sink.taken c.loop-file.out) (g.K.Sink.taken c.write_file.new.out) c.in_ok-write_file.field-0 c.loop-file-test.true c.file-item.is c.loop-file.invariant.taken c.in_ok-write_file.ensures.front;
-  later = search rules;
+  kept = search rules;
 }

@@ -22,5 +22,5 @@ loop-rest-preserved g c =
         parts (runs_words c.args.schedule.now) so_far.0 (runs_words c.loop-rest.rest.now) c.in_ok-piece.piece.items (runs_words c.in_ok-piece.after.now) c.deref.result.now so_far.1 c.in_ok-piece.ensures.words c.deref.ensures.value,
         so_far_then (g.K.Sink.taken c.args.out.now) (g.K.Sink.taken c.loop-rest.out) (g.K.Sink.taken c.write_text.new.out) c.in_ok-write_text.field-0 so_far.0 c.deref.result.now so_far.2 c.in_ok-write_text.ensures.front,
       );
-      later = search rules;
+      kept = search rules;
     }

@@ -1,16 +1,20 @@
-use Rattle.std.proofs.Common.{◌≡◌, ◌∙◌, ap, Some, sym, arith}
-use Rattle.flr_base.proofs.RunLaws.{grow_step, next_step, first_step}
+use Rattle.std.proofs.Common.{◌≡◌, ◌≢◌, ℕ, ◌+◌, ◌-◌, ◌<◌, ◌≤◌, List, length, get_or, take, drop, replicate, sym, subst, arith}
+use Rattle.std.proofs.lemmas.List.{length-drop, take_all}
+use Rattle.flr_base.specs.declared.runs.run.Run.{Run}
+use Rattle.flr_base.proofs.RunLaws.{Grouped, group_step}
 use Rattle.flr_base.proofs.runs.printing.group.Goals as goal
-use Rattle.flr_base.proofs.runs.printing.group.Goals.{in-Some, in-Some-2+in_ok-push-in-Some-2, in-None}
 
-pub loop-byte-preserved : goal.loop-byte-preserved
-loop-byte-preserved c =
-    let l = c.loop-byte in
-    let bytes = c.args.bytes.now in
-    elim c.match-last.branch [
-      | in-Some w ↦ rw w.runs-is (grow_step bytes l.byte-index l.runs.items l.last c.match-last.last w.in-Some.run' (omega arith) (omega arith) l.invariant w.in-Some.is w.if-run-byte.true w.last-is)
-      | in-Some-2+in_ok-push-in-Some-2 w ↦
-          rw w.runs-is (next_step bytes l.byte-index l.runs.items w.push.new.self.items l.last c.match-last.last w.in-Some-2.run' (omega arith) (omega (arith, c.type_inv.bytes l.byte-index)) l.invariant w.in-Some-2.is
-          (λ e. w.if-run-byte.false (let s : Some w.in-Some.run' ≡ Some w.in-Some-2.run' = sym w.in-Some.is ∙ w.in-Some-2.is in let t : w.in-Some.run' ≡ w.in-Some-2.run' = cc in ap (λ r. r.byte) t ∙ e)) w.in_ok-push-in-Some-2.ensures.items w.last-is)
-      | in-None w ↦ rw w.runs-is (first_step bytes l.byte-index l.runs.items l.last c.match-last.last (omega arith) (omega (arith, c.type_inv.bytes l.byte-index)) l.invariant w.in-None.is w.last-is)
-    ]
+-- so many bytes at the front are this byte, and the next one isn't
+abbrev IsStretch : ℕ → ℕ → List ℕ → Type 0
+IsStretch byte n bytes = (n ≤ length bytes) × (take n bytes ≡ replicate n byte) × (n < length bytes → get_or bytes n 0 ≢ byte)
+
+pub loop-done-preserved : goal.loop-done-preserved
+loop-done-preserved c =
+    let l = c.loop-done in
+    let bytes : List ℕ = c.args.bytes.now in
+    let whole : take (length c.args.bytes.now - c.loop-done.done) (drop c.loop-done.done c.args.bytes.now) ≡ drop c.loop-done.done c.args.bytes.now =
+    take_all (length c.args.bytes.now - c.loop-done.done) (drop c.loop-done.done c.args.bytes.now) (omega (arith, length-drop c.loop-done.done c.args.bytes.now)) in
+    let found : IsStretch (get_or c.args.bytes.now c.loop-done.done 0) c.stretch-count.result (drop c.loop-done.done c.args.bytes.now) =
+    subst (IsStretch (get_or c.args.bytes.now c.loop-done.done 0) c.stretch-count.result) whole (c.stretch-count.ensures.within, c.stretch-count.ensures.same, c.stretch-count.ensures.end) in
+    subst (λ (rs : List Run). Grouped c.args.bytes.now (l.done + c.stretch-count.result) rs) (sym c.in_ok-push.ensures.items)
+    (group_step bytes l.done c.stretch-count.result l.runs.items (omega arith) (omega (arith, c.type_inv.bytes l.done)) (omega (arith, found.0, length-drop c.loop-done.done c.args.bytes.now)) found.0 found.1 found.2 l.invariant)

@@ -34,10 +34,10 @@ returns-in-Ok-clause-free c =
     sym c.self.view_is ∙ ap (λ (p : Phase). copy_by c.self.inside.asked (at_of p)) c.in-Begun.is
     ∙ ap (λ (x : CopyingView). copy_by c.self.inside.asked (at.Copy (fences_from x 0))) (sym c.in-Ok.ensures.begun)
     ∙ ap (λ (next : CopyStage). copy_by c.self.inside.asked (at.Copy next)) (sym c.fences_from.ensures.next) in
-    subst (λ (v : CopyView). TakesNoMemory v.at → HasMemory c.stage.result) (sym e) c.stage.ensures.free
+    subst (λ (v : CopyView). TakesNoMemory v (servers c.args.meta.now c.args.targets.now c.args.locks.now) → HasMemory c.stage.result) (sym e) c.stage.ensures.free
 
 pub returns-in-Err-clause-free : goal.returns-in-Err-clause-free
 returns-in-Err-clause-free c =
     let sound = subst (λ (p : Phase). IsSoundPhase p) c.in-Begun.is c.self.invariant.1 in
     let e = sym c.self.view_is ∙ ap (λ (p : Phase). copy_by c.self.inside.asked (at_of p)) c.in-Begun.is in
-    λ h. wants_memory c.in-Begun.side c.in-Begun.ids sound.0 sound.1 (subst (λ (v : CopyView). TakesNoMemory v.at) e h)
+    λ h. wants_memory c.in-Begun.side c.in-Begun.ids sound.0 sound.1 (subst (λ (v : CopyView). TakesNoMemory v (servers c.args.meta.now c.args.targets.now c.args.locks.now)) e h)
