@@ -29,7 +29,7 @@ compare() {
     is_ready || return 1
     kit=$(rt version)
     if [ ! -f "$about" ]; then
-        say "no program is shipped: ./flr ship does it"
+        say "no program is shipped: ./flr ship does it. The one that was built here has the checksum $(sum_of "$built")"
     elif [ "$(told kit)" != "$kit" ]; then
         say "the shipped program isn't compared: it was built with $(told kit), and rt here is of $kit"
     elif [ "$(told sources)" != "$(sum_of_sources)" ]; then
