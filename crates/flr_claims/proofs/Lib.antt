@@ -4,6 +4,6 @@ mod CopyLaws
 mod MetaWaits
 mod CallWaits
 pub mod BlockingLaws
-mod RefusalLaws
+pub mod RefusalLaws
 mod ReplyLaws
 pub mod SplitLaws

@@ -61,13 +61,13 @@ use Rattle.flr_claims.specs.Refusals.{IsSuccess, RefusedExactly, RefusesBy, Refu
 -- ---- the metadata server
 
 -- a call of the metadata server isn't refused
-abbrev NotRefused : {A : Type 0} → meta.Outcome A → Type 0
+abbrev pub NotRefused : {A : Type 0} → meta.Outcome A → Type 0
 NotRefused (Gives given after) = Unit {0}
 NotRefused (Refuses answer) = ⊥
 NotRefused (Waits holder) = Unit {0}
 
 -- it is refused exactly so
-abbrev ByMeta : {A : Type 0} → Option Reply → meta.Outcome A → Type 0
+abbrev pub ByMeta : {A : Type 0} → Option Reply → meta.Outcome A → Type 0
 ByMeta (Some answer) o = o ≡ Refuses answer
 ByMeta None o = NotRefused o
 
@@ -84,7 +84,7 @@ module _ (client : ℕ) (range : Range) (step : ℕ) (m : MetaView) where
   open_by_ready f true = tt
   open_by_ready f false = open_by_primary f (primary_of range f.layout.components)
 
-  open_by : (name : List ℕ) (too_big : Bool) (o : Option File) → ByMeta (change_refusal name range too_big o) (opening.change_opens_file client range step m name too_big o)
+  pub open_by : (name : List ℕ) (too_big : Bool) (o : Option File) → ByMeta (change_refusal name range too_big o) (opening.change_opens_file client range step m name too_big o)
   open_by name too_big None = refl
   open_by name true (Some f) = refl
   open_by name false (Some f) = open_by_ready f (is_ready f.layout range)
@@ -98,7 +98,7 @@ module _ (client id : ℕ) (change : FlagSets) (step : ℕ) (m : MetaView) where
   set_by_refusal f (Some error) = refl
   set_by_refusal f None = set_by_holder f (lowest_but client f.lock)
 
-  set_by : (name : List ℕ) (o : Option File) → ByMeta (flags_refused name id change o) (naming.sets_file client id change step m name o)
+  pub set_by : (name : List ℕ) (o : Option File) → ByMeta (flags_refused name id change o) (naming.sets_file client id change step m name o)
   set_by name None = refl
   set_by name (Some f) = set_by_refusal f (flags_refusal id change f.layout.components)
 
@@ -111,7 +111,7 @@ module _ (client mirror step : ℕ) (m : MetaView) where
   delete_by_refusal f (Some error) = refl
   delete_by_refusal f None = go_by_holder f None (lowest_but client f.lock)
 
-  delete_by : (name : List ℕ) (o : Option File) → ByMeta (delete_refusal name mirror o) (naming.removes_file client mirror step m name None o)
+  pub delete_by : (name : List ℕ) (o : Option File) → ByMeta (delete_refusal name mirror o) (naming.removes_file client mirror step m name None o)
   delete_by name None = refl
   delete_by name (Some f) = delete_by_refusal f (keeping mirror f.layout.components)
 
@@ -134,7 +134,7 @@ module _ (client mirror step : ℕ) (m : MetaView) where
   split_by_refusal f to (Some error) = refl
   split_by_refusal f to None = split_by_fresh f to (wholly_fresh mirror f.layout.components)
 
-  split_by : (name to : List ℕ) (o : Option File) → ByMeta (split_refusal name mirror to m.files o) (naming.removes_file client mirror step m name (Some to) o)
+  pub split_by : (name to : List ℕ) (o : Option File) → ByMeta (split_refusal name mirror to m.files o) (naming.removes_file client mirror step m name (Some to) o)
   split_by name to None = refl
   split_by name to (Some f) = split_by_refusal f to (keeping mirror f.layout.components)
 
@@ -143,7 +143,7 @@ module _ (name : List ℕ) (mirrors : List MirrorSpec) (m : MetaView) where
   make_by_room true = refl
   make_by_room false = tt
 
-  make_by : (o : Option File) → ByMeta (make_refusal name m.files o) (naming.creates_file name mirrors m o)
+  pub make_by : (o : Option File) → ByMeta (make_refusal name m.files o) (naming.creates_file name mirrors m o)
   make_by (Some f) = refl
   make_by None = make_by_room (is_full m.files)
 
@@ -164,7 +164,7 @@ module _ (client : ℕ) (m : MetaView) where
   resync_by_mirror only f (Some id) = refl
   resync_by_mirror only f None = resync_by_lease only f (holder_of m.leases f.number)
 
-  resync_by : (name : List ℕ) (only : Option (List ℕ)) (o : Option File) → ByMeta (resync_refusal name only m o) (begin.copy_begins_file client m name (what.Resync only) o)
+  pub resync_by : (name : List ℕ) (only : Option (List ℕ)) (o : Option File) → ByMeta (resync_refusal name only m o) (begin.copy_begins_file client m name (what.Resync only) o)
   resync_by name only None = refl
   resync_by name only (Some f) = resync_by_mirror only f (absent_of only f.layout.components)
 
@@ -187,7 +187,7 @@ module _ (client : ℕ) (m : MetaView) where
   extend_by_room mirrors f (Some error) = refl
   extend_by_room mirrors f None = extend_by_lease mirrors f (holder_of m.leases f.number)
 
-  extend_by : (name : List ℕ) (mirrors : List MirrorSpec) (o : Option File) → ByMeta (extend_refusal name mirrors m o) (begin.copy_begins_file client m name (what.Extend mirrors) o)
+  pub extend_by : (name : List ℕ) (mirrors : List MirrorSpec) (o : Option File) → ByMeta (extend_refusal name mirrors m o) (begin.copy_begins_file client m name (what.Extend mirrors) o)
   extend_by name mirrors None = refl
   extend_by name mirrors (Some f) = extend_by_room mirrors f (excess f.layout (length mirrors) (part_count mirrors) m.most)
 
@@ -216,7 +216,7 @@ module _ (client : ℕ) (m : MetaView) where
   merge_by_victim victim f None = refl
   merge_by_victim victim f (Some v) = merge_by_room f v (excess f.layout (length (mirror_ids v.layout.components)) (length v.layout.components) m.most)
 
-  merge_by : (name victim : List ℕ) (o : Option File) → ByMeta (merge_refusal name victim m o) (begin.copy_begins_file client m name (what.Victim victim) o)
+  pub merge_by : (name victim : List ℕ) (o : Option File) → ByMeta (merge_refusal name victim m o) (begin.copy_begins_file client m name (what.Victim victim) o)
   merge_by name victim None = refl
   merge_by name victim (Some f) = merge_by_victim victim f (file_named victim m.files)
 

@@ -1,25 +1,23 @@
--- What is claimed of every run of every script: the one record, and the sentences that come into it with their proofs.
-use Rattle.std.specs.Prelude.{◌≡◌, ℕ, ◌-◌, ◌≤◌, false, length, map, None, Some}
+-- What is claimed of every run of every script, sentence by sentence. The record of those that are proved is `IsSoundRun` of flr_world.
+use Rattle.std.specs.Prelude.{◌≡◌, ℕ, ◌-◌, map, None, Some}
 use Rattle.std.specs.List.{AllByRecursion}
 use Rattle.flr_base.specs.declared.reply.Entry.{Entry}
 use Rattle.flr_base.specs.declared.reply.Reply.{Reply}
 use Rattle.flr_base.specs.declared.reply.Reply.TheVariants as reply
 use Rattle.meta_laws.specs.Layouts.{AreExplained}
-use Rattle.meta_server.specs.Sound.{IsSound}
-use Rattle.script_values.specs.Scripts.{work_of}
+use Rattle.script_values.specs.declared.command.Command.{Command}
 use Rattle.flr_steps.specs.Runs.{HasCommand}
 use Rattle.flr_steps.specs.States.{IsRun, State, Stepped, next, state_at, unfinished_of}
-use Rattle.flr_steps.specs.Traces.{Trace, trace_after}
+use Rattle.flr_steps.specs.Traces.{Trace}
 use Rattle.flr_claims.specs.Calls.{Call}
-use Rattle.flr_claims.specs.Causes.{IsCaused, IsOnlyAnswer, has_rot}
+use Rattle.flr_claims.specs.Causes.{IsCaused, IsOnlyAnswer}
 use Rattle.flr_claims.specs.Completeness.{AreAnsweredWell}
 use Rattle.plain_files.specs.Histories.{Answered, ArePointsAfter, FollowInOrder, IsLinear, IsWhole, IsWithinInterval, entries_of}
-use Rattle.flr_claims.specs.Honesty.{HasSoleHolder, IsHonest}
 use Rattle.flr_claims.specs.Refusals.{refusal_for}
 use Rattle.flr_claims.specs.Runs.{EachCallIs, EachStepIs, calls_of}
 use Rattle.flr_claims.specs.Steps.{ChangesFiles, LosesOnlySo, ObjectsStandOnce, StaleGoesOnlySo, TakesOnlyItsOwn}
 
--- ---- sentences that are proved of every run
+-- ---- on a run
 
 -- each entry is within its interval, the points ascend, and each client's entries have the numbers from 1 on and follow one another
 pub record AreInOrder (s : State) : Type 0 where
@@ -48,27 +46,19 @@ CallsAreEntries s t = map (λ (a : Answered). a.entry) (calls_of s t) ≡ s.entr
 abbrev pub CallsAreLinear : State → Trace → Type 0
 CallsAreLinear s t = IsLinear s.script s.schedule (calls_of s t)
 
--- the calls stand in order, each at a point of its own within its interval, none of them lost; where no command lets a byte rot they are linear on plain files; the files are sound, so that each layout is valid with a wholly fresh mirror; each change of a layout is explained; each part of a write or a truncate that may still land, or has landed before its call's point, lies in the only fresh components there; where no command lets a byte rot, the files are the plain files that the calls so far leave, and fresh components hold their bytes; nobody is stuck; and the run isn't longer than its script's work
-pub record IsSoundRun (s : State) : Type 0 where
-  pub order : AreInOrder s
-  pub all : CallsAreEntries s (trace_after s.script s.schedule)
-  pub linear : has_rot s.script ≡ false → CallsAreLinear s (trace_after s.script s.schedule)
-  pub files : IsSound s.shared.meta
-  pub changes : ChangesAreExplained s
-  pub sole : HasSoleHolder s (trace_after s.script s.schedule)
-  pub honest : has_rot s.script ≡ false → IsHonest s (trace_after s.script s.schedule)
-  pub live : IsLive s
-  pub short : length s.schedule ≤ work_of s.script
-
 -- where nobody has a command left, each command has its answer
 abbrev pub AreWhole : Type 0
 AreWhole = (s : State) → IsRun s → unfinished_of s ≡ None → IsWhole s.script s.entries
 
--- ---- sentences on the calls of a run that are to come into it
+-- ---- on its calls
 
 -- each answer has its cause: so every byte of a read came from a fresh component, and a copy cleared just what it copied whole
 abbrev pub AnswersHaveCauses : State → Trace → Type 0
 AnswersHaveCauses s t = EachCallIs (λ (k : Call) (e : Entry). IsCaused k e.reply) s t
+
+-- so it is with each answer to a command of this kind
+abbrev pub AnswersHaveCausesWhere : (Command → Type 0) → State → Trace → Type 0
+AnswersHaveCausesWhere is_of s t = EachCallIs (λ (k : Call) (e : Entry). is_of k.asked → IsCaused k e.reply) s t
 
 -- and no other answer has one: with the sentence before, each answer comes exactly where it is due
 abbrev pub AnswersAreAlone : State → Trace → Type 0
@@ -95,7 +85,7 @@ IsVerifiedBy k other = Unit {0}
 abbrev pub VerifiesTellWhatTheyRead : State → Trace → Type 0
 VerifiesTellWhatTheyRead s t = EachCallIs (λ (k : Call) (e : Entry). IsVerifiedBy k e.reply) s t
 
--- ---- sentences on its steps
+-- ---- on its steps
 
 -- a step makes, changes and takes away just what its command is for
 abbrev pub CommandsChangeTheirFiles : State → Type 0

@@ -13,3 +13,16 @@ pub mod Grounds
 pub mod Steps
 pub mod Runs
 pub mod Legal
+pub mod CallRuns
+pub mod CallSteps
+pub mod Changes
+pub mod OneStep
+pub mod ReadCauses
+pub mod WriteCauses
+pub mod VerifyCauses
+pub mod CopyCauses
+pub mod MergeCauses
+pub mod BrokenLeases
+pub mod GoingWell
+pub mod OnlyAnswers
+pub mod Causes

@@ -8,3 +8,14 @@ pub mod Copied
 pub mod Lasting
 pub mod Laws
 pub mod Legal
+pub mod Entries
+pub mod CallSteps
+pub mod Changes
+pub mod OneStep
+pub mod ReadCauses
+pub mod WriteCauses
+pub mod VerifyCauses
+pub mod CopyCauses
+pub mod GoingWell
+pub mod OnlyAnswers
+pub mod Causes

@@ -12,7 +12,7 @@ use Rattle.flr_steps.specs.Schedules.{IsBlocked, IsCutShort, IsStopped, IsTaken,
 use Rattle.flr_steps.specs.States.{State}
 use Rattle.plain_files.specs.Histories.{IsWhole}
 use Rattle.flr_claims.specs.Blocking.{IsWaiting}
-use Rattle.flr_claims.specs.Claims.{IsSoundRun}
+use Rattle.flr_world.specs.Claims.{IsSoundRun}
 use Rattle.flr_replay.specs.Lines.{cut_short_line, stopped_line}
 
 -- status 0: the bytes spell a script and a schedule that it takes, and the text is the report of that run. Every command stands in it once and has ended, and the run is sound

@@ -6,7 +6,7 @@ use Rattle.flr_steps.specs.Reports.{text_of_run}
 use Rattle.flr_steps.specs.Schedules.{IsTaken}
 use Rattle.flr_steps.specs.States.{State}
 use Rattle.plain_files.specs.Histories.{IsWhole}
-use Rattle.flr_claims.specs.Claims.{IsSoundRun}
+use Rattle.flr_world.specs.Claims.{IsSoundRun}
 
 -- status 0: the bytes spell a script, which takes the schedule that came about, and the text is the report of that run. Every command stands in it once and has ended, and the run is sound
 pub record IsReport (bytes text : List ℕ) : Type 0 where

@@ -6,7 +6,7 @@ use Rattle.flr_base.specs.declared.reply.Entry.{Entry}
 use Rattle.flr_base.specs.declared.reply.Reply.{Reply}
 use Rattle.flr_base.specs.declared.reply.Reply.TheVariants as reply
 use Rattle.flr_steps.specs.States.{State, unfinished_of}
-use Rattle.flr_claims.specs.Claims.{IsSoundRun}
+use Rattle.flr_world.specs.Claims.{IsSoundRun}
 use Rattle.flr_world.specs.Counts.{unfinished_count}
 use Rattle.flr_soak.specs.Soaking.{IsRunOf}
 

@@ -6,7 +6,7 @@ use Rattle.flr_steps.specs.Reports.{text_of_run}
 use Rattle.flr_steps.specs.Schedules.{IsTaken}
 use Rattle.flr_steps.specs.States.{State, start}
 use Rattle.plain_files.specs.Histories.{IsWhole}
-use Rattle.flr_claims.specs.Claims.{IsSoundRun}
+use Rattle.flr_world.specs.Claims.{IsSoundRun}
 use Rattle.flr_soak.specs.Soaking.{IsSoaked}
 
 -- status 0: the bytes spell a script, the text is the report of its run, and that run is the one that the numbers from this seed on make, one step for each draw. Every command stands in it once and has ended, and the run is sound

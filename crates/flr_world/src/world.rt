@@ -4,7 +4,7 @@ ghost use Rattle.std.specs.Prelude.{◌≡◌, ◌<◌, ◌+◌, ◌≤◌, ◌�
 ghost use Rattle.script_values.specs.Scripts.{command_after};
 ghost use Rattle.flr_steps.specs.States.{IsRun, new_client, start, unfinished_of};
 ghost use Rattle.flr_world.specs.Answers.{StepGives};
-ghost use Rattle.flr_claims.specs.Claims.{IsSoundRun};
+ghost use Rattle.flr_world.specs.Claims.{IsSoundRun};
 ghost use Rattle.flr_world.specs.Counts.{unfinished_count};
 
 use crate::member::{Member, new_members};
@@ -154,8 +154,10 @@ impl World {
     /// still land, or has landed before its call's moment, lies in the only fresh components there. Where no
     /// command of the script lets a byte rot, the files are the plain files that the calls so far leave, and every
     /// fresh component holds their bytes, but where a write or a truncate has landed that is before its moment.
-    /// While some client has a command left, some client can make its next step; and there are no more steps than
-    /// the script's work.
+    /// Again without such a command, each answer to a command that is neither a resync nor an extend has its cause, and
+    /// no other answer has one: so each byte that a read answered came from a fresh component. What refuses a command
+    /// comes first; and a step changes just what its command is for. While some client has a command left, some client
+    /// can make its next step; and there are no more steps than the script's work.
     pub fn step(&mut self, client: u8) -> StepAnswer
         ensures step { StepGives self.old client result self.new }
         ensures run { IsRun self.new }

@@ -1,0 +1,25 @@
+-- The steps of a call of a run, as its trace tells them.
+pub mod Narrowed
+pub mod EachKind
+pub mod Standing
+pub mod Making
+pub mod EachMakes
+pub mod CopyMakes
+pub mod CalledThere
+pub mod Calling
+pub mod Opened
+pub mod Since
+pub mod BeginsOnce
+pub mod Failing
+pub mod Before
+pub mod Asked
+pub mod OpenedFiles
+pub mod BegunFiles
+pub mod KnownOpened
+pub mod OnTheWay
+pub mod OpensLast
+pub mod KnownSides
+pub mod KnownMerges
+pub mod BeginsFirst
+pub mod CallsMade
+pub mod HeldFiles

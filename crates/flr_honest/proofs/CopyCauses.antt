@@ -1,0 +1,20 @@
+-- Why copies of one file are answered as they are.
+pub mod Bounded
+pub mod Made
+pub mod Begun
+pub mod Opening
+pub mod Refusing
+pub mod Once
+pub mod Carried
+pub mod Fronts
+pub mod Ended
+pub mod Ascending
+pub mod Held
+pub mod Unlost
+pub mod Rightly
+pub mod Clearing
+pub mod Rising
+pub mod Copied
+pub mod Causes
+pub mod Whole
+pub mod Called

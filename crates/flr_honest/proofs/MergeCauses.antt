@@ -1,0 +1,20 @@
+-- Why extends by a victim are answered as they are.
+pub mod Chunks
+pub mod Made
+pub mod Known
+pub mod Growing
+pub mod Going
+pub mod Reading
+pub mod Objects
+pub mod Steps
+pub mod Taking
+pub mod Begins
+pub mod Sites
+pub mod Walk
+pub mod Lasting
+pub mod Holders
+pub mod Told
+pub mod Refused
+pub mod Ends
+pub mod LastSteps
+pub mod Found

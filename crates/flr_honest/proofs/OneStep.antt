@@ -1,0 +1,3 @@
+-- Commands of one step.
+pub mod Asking
+pub mod Answering

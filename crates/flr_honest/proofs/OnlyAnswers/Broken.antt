@@ -1,0 +1,2 @@
+-- How the leases of copies came to be broken.
+pub mod Once

@@ -1,0 +1,24 @@
+-- Why writes and truncates are answered as they are.
+pub mod Places
+pub mod Rising
+pub mod Parts
+pub mod Failing
+pub mod Calling
+pub mod Writing
+pub mod Cutting
+pub mod Naming
+pub mod Walking
+pub mod Standing
+pub mod Answering
+pub mod Refusing
+pub mod WriteSteps
+pub mod WriteCauses
+pub mod CutSteps
+pub mod CutCauses
+pub mod EachCall
+pub mod Again
+pub mod AgainCuts
+pub mod AgainRuns
+pub mod LostCommits
+pub mod Landing
+pub mod Accepted

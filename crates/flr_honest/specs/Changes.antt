@@ -1,0 +1,2 @@
+-- What each step of a run changes.
+pub mod Laws

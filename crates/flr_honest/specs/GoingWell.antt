@@ -1,0 +1,2 @@
+-- How calls are answered where nothing goes wrong.
+pub mod Wells

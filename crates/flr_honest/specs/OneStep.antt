@@ -1,0 +1,2 @@
+-- Commands of one step.
+pub mod Sentences

@@ -1,0 +1,2 @@
+-- Whichever answer has its cause is the only one.
+pub mod Alone

@@ -1,0 +1,2 @@
+-- Why reads are answered as they are.
+pub mod Causes

@@ -1,0 +1,2 @@
+-- Why verifies are answered as they are.
+pub mod Sentences
